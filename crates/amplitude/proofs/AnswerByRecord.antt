@@ -29,7 +29,8 @@ module _ (n : ℕ) (r : GraphRecord) (S : Simple n (r .graph)) (F : ReducedForm 
     where
       go : (b : Bool) → isSupported n (rowsOf n r) y ≡ b
           → cond b (turned (exponent (ratio n (rowsOf n r) y))) Nothing
-          ≡ cond b (turned (exponent (over (keptTurns n r (bit y)) (keptTurns n r (bit (lowest n (rowsOf n r))))))) Nothing
+          ≡ cond b (turned (exponent (over (keptTurns n r (bit y)) (keptTurns n r (bit (lowest n (rowsOf n r)))))))
+          Nothing
       go true e = ap (λ t. turned (exponent t)) (taken-over (ratio n (rowsOf n r) y)
           (keptTurns n r (bit (lowest n (rowsOf n r)))) (keptTurns n r (bit y)) (ratio-by-turns n r S F y e))
       go false e = refl

@@ -34,7 +34,8 @@ module _ (n : ℕ) (R S : ℕ → Pauli) (P : Proper n R) (Q : Proper n S) (E : 
 
   same-ratio : (y : ℕ) → isSupported n R y ≡ true → ratio n R y ≡ ratio n S y
   same-ratio y H =
-      sym (any-element n R P y H p (E .back p (bit v, refl)) (λ q l. lead q l ∙ ap (λ w. bit w q ⊕ bit y q) (sym same-lowest)))
+      sym (any-element n R P y H p (E .back p (bit v, refl))
+      (λ q l. lead q l ∙ ap (λ w. bit w q ⊕ bit y q) (sym same-lowest)))
       ∙ ap (λ w. turnsAt n p (bit w)) same-lowest
       ∙ any-element n S Q y (sym (same-support y) ∙ H) p (bit v, refl) lead
     where

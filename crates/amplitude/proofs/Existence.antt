@@ -16,7 +16,15 @@ use Rattle.words.proofs.SearchLaws.{every-at, every-in, some-in, some-true}
 use Rattle.words.specs.Bits.{Word, _⊕_, bit, sameBit, wordOf}
 use Rattle.words.specs.Search.{IsFirst, every, first}
 use Rattle.operations.proofs.FormOfReduced.{form-of-reduced}
-use Rattle.amplitude.proofs.FormWords.{between, first-solves, first-word, leads-between, Solves, solves-supported, supported-solves}
+use Rattle.amplitude.proofs.FormWords.{
+  between,
+  first-solves,
+  first-word,
+  leads-between,
+  Solves,
+  solves-supported,
+  supported-solves,
+}
 use Rattle.amplitude.proofs.Support.{named, supported-exactly, supported-ext, supported-of-group, turns-agree}
 use Rattle.amplitude.specs.Ratios.{Leads, chosenBy, leading, lowest, ratio, isSupported}
 use Rattle.amplitude.specs.internal.Ratios.{Supported}

@@ -31,7 +31,8 @@ diagonal-turns n p d y = ap (λ t. p .phase +ᵖ t)
     place : (z b : Bool) → letterTurns (letter z false) b ≡ minus (z && b)
     place = phases 2 (λ z b. letterTurns (letter z false) b) (λ z b. minus (z && b)) tt
 
--- ---- a place of a generator: g, an edge; e, the own place. Where C is 1 there is no edge, where it is 0 not the own place
+-- ---- a place of a generator: g, an edge; e, the own place. Where C is 1 there is no edge, where it is 0 not the own
+-- place
 z-place : (c : Class) (s t g e : Bool) → codeOf (record { class = c; sx = s; sz = t }) < 12
     → (bitC (record { class = c; sx = s; sz = t }) && g) ≡ false
     → (not (bitC (record { class = c; sx = s; sz = t })) && e) ≡ false

@@ -16,7 +16,14 @@ use Rattle.stabilizer.specs.Groups.{Proper, product}
 use Rattle.words.proofs.Finite.{bits, ⊕-back}
 use Rattle.words.specs.Bits.{Word, _⊕_, bit}
 use Rattle.amplitude.proofs.Existence.{any-element, lowest-is}
-use Rattle.amplitude.proofs.FormWords.{Solves, between, first-solves, first-word, leads-between, supported-solves}
+use Rattle.amplitude.proofs.FormWords.{
+  Solves,
+  between,
+  first-solves,
+  first-word,
+  leads-between,
+  supported-solves,
+}
 use Rattle.amplitude.proofs.KeptRows.{products-turn}
 use Rattle.amplitude.proofs.Support.{supported-exactly, turns-ext, turns-identity}
 use Rattle.amplitude.proofs.TurnLaws.{turns-mul}

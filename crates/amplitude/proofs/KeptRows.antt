@@ -65,9 +65,11 @@ module _ (n : ℕ) (r : GraphRecord) (S : Simple n (r .graph)) (F : ReducedForm 
   unfolding turnsAt act
   row-turns j l u =
       ap₂ _+ᵖ_
-      (fold-ext i⁰ _+ᵖ_ n (λ q k. phase-place (r .codes q) (r .graph j q) (eqb q j) (F .even q k) (no-loop n (r .graph) S j q))
+      (fold-ext i⁰ _+ᵖ_ n (λ q k. phase-place (r .codes q) (r .graph j q) (eqb q j) (F .even q k)
+      (no-loop n (r .graph) S j q))
       ∙ sumPhase-one n j l (λ q. minus ((r .codes q) .sx)))
-      (fold-ext i⁰ _+ᵖ_ n (λ q k. ap (λ a. letterTurns a (u q)) (letter-bits (image (r .codes q) (letter (r .graph j q) (eqb q j))))
+      (fold-ext i⁰ _+ᵖ_ n (λ q k. ap (λ a. letterTurns a (u q))
+      (letter-bits (image (r .codes q) (letter (r .graph j q) (eqb q j))))
       ∙ turns-place ((r .codes q) .class) ((r .codes q) .sx) ((r .codes q) .sz) (r .graph j q) (eqb q j) (u q)
       (F .low q k) (no-loop n (r .graph) S j q))
       ∙ sumPhase-add n (λ q. cond (eqb q j) (letterTurns (image (r .codes q) X) (u q)) i⁰)
@@ -102,7 +104,8 @@ module _ (n : ℕ) (r : GraphRecord) (S : Simple n (r .graph)) (F : ReducedForm 
         ≡ parity m (λ q. r .graph m q && w q)
     neighbours m l =
         fold-ext false _⊕_ n (λ q k. go q k (bitC (r .codes q)) refl)
-        ∙ fold-more false _⊕_ bitMonoid m n (omega arith) (λ q k. ap (λ b. r .graph m q && b) (up q k) ∙ and-false (r .graph m q))
+        ∙ fold-more false _⊕_ bitMonoid m n (omega arith) (λ q k. ap (λ b. r .graph m q && b) (up q k) ∙ and-false
+        (r .graph m q))
         ∙ fold-ext false _⊕_ m (λ q k. ap (λ b. r .graph m q && b) (down q k))
       where
         -- w below m, nothing from m on

@@ -133,7 +133,8 @@ module _ (n : ℕ) (R : ℕ → Pauli) (down : ℕ → ℕ → Pauli) (forced : 
           | inr b ↦ bit-above n least (wordOf-lt n forced) t b ∙ sym (bit-above n j below t b)
         ]
 
-        split : (f : Bool) → forced (n - suc k) ≡ f → (v : Bool) → bit j (n - suc k) ≡ v → Agrees j (suc k) ⊎ (least < j)
+        split : (f : Bool) → forced (n - suc k) ≡ f → (v : Bool) → bit j (n - suc k) ≡ v → Agrees j (suc k) ⊎
+            (least < j)
         split false e false h = inl (here (h ∙ sym e))
         split false e true h = inr (bit-less least j (n - suc k)
             (bit-wordOf n forced (n - suc k) (omega arith) ∙ e) h above)

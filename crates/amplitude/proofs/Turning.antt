@@ -48,7 +48,8 @@ own-negative (negsuc k) e = absurd (apart e)
 
 -- also among Gaussian integers
 pub negated-none : (z : Gaussian) → turnBy i² z ≡ z → z ≡ none
-negated-none z e = gaussian (own-negative (z .re) (sym (ap (λ u. u .re) e))) (own-negative (z .im) (sym (ap (λ u. u .im) e)))
+negated-none z e = gaussian (own-negative (z .re) (sym (ap (λ u. u .re) e)))
+    (own-negative (z .im) (sym (ap (λ u. u .im) e)))
 
 -- four turns bring a number back, so that only 0 turns to 0
 pub none-turned : (t : Phase) (z : Gaussian) → turnBy t z ≡ none → z ≡ none

@@ -17,7 +17,13 @@ use Rattle.words.proofs.SearchLaws.{every-in, first-is, some-false}
 use Rattle.words.specs.Bits.{_⊕_, bit}
 use Rattle.words.specs.Search.{every, some}
 use Rattle.amplitude.proofs.Existence.{any-element, leading-leads, lowest-is, some-leads}
-use Rattle.amplitude.proofs.Support.{supported-exactly, supported-ext, supported-moved, turns-ext, turns-identity}
+use Rattle.amplitude.proofs.Support.{
+  supported-exactly,
+  supported-ext,
+  supported-moved,
+  turns-ext,
+  turns-identity,
+}
 use Rattle.amplitude.proofs.TurnLaws.{turns-mul}
 use Rattle.amplitude.proofs.Turning.{negated-none, none-turned, turn-add, turn-none, turned-one-some}
 use Rattle.amplitude.specs.internal.Ratios.{Diagonal}

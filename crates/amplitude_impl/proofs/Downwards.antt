@@ -37,18 +37,21 @@ abbrev further : ℕ → GraphRecord → ℕ → GraphRecord
 further n g t = reduced n (measuredRows n (rowsOf n g) Z t (contradicts n (rowsOf n g) Z t false))
 
 -- line 14 depends on the group alone
-contradicts-of-group : (n : ℕ) (R S : ℕ → Pauli) → Proper n R → Proper n S → SameGroup n n R S → (l : Letter) (q : ℕ) → q < n
+contradicts-of-group : (n : ℕ) (R S : ℕ → Pauli) → Proper n R → Proper n S → SameGroup n n R S → (l : Letter) (q : ℕ) →
+    q < n
     → (b : Bool) → contradicts n R l q b ≡ contradicts n S l q b
 contradicts-of-group n R S P Q E l q h b = same-by-both _ _
     (λ t. contradicts-exactly n S l q b Q h .1 (E .there _ (contradicts-exactly n R l q b P h .0 t)))
     (λ t. contradicts-exactly n R l q b P h .1 (E .back _ (contradicts-exactly n S l q b Q h .0 t)))
 
 -- each of these records has a proper list
-records-proper : (n : ℕ) (r : GraphRecord) → Simple n (r .graph) → (k : ℕ) → k ≤ n → Proper n (rowsOf n (recordsDown n r k))
+records-proper : (n : ℕ) (r : GraphRecord) → Simple n (r .graph) → (k : ℕ) → k ≤ n → Proper n
+    (rowsOf n (recordsDown n r k))
 unfolding recordsDown
 records-proper n r S zero l = record-proper n r S
 records-proper n r S (suc k) l = record-proper n (recordsDown n r (suc k))
-    (reduced-is n _ (measured-proper n (rowsOf n (recordsDown n r k)) (records-proper n r S k (omega arith)) Z (n - suc k)
+    (reduced-is n _ (measured-proper n (rowsOf n (recordsDown n r k)) (records-proper n r S k (omega arith)) Z
+    (n - suc k)
     (omega arith) (contradicts n (rowsOf n (recordsDown n r k)) Z (n - suc k) false)) .simple)
 
 module _ (words codes : List ℕ) where
@@ -118,18 +121,22 @@ module _ (words codes : List ℕ) where
 
       is-one : one ≡ contradicts n (rowsOf n down) Z (q - 1) false
       is-one = e ∙ ap (λ k. contradicts k (rowsOf k held₁) Z (q - 1) false) (D .long)
-          ∙ sym (contradicts-of-group n (rowsOf n down) (rowsOf n held₁) proper-down proper-held (D .group) Z (q - 1) hq false)
+          ∙ sym (contradicts-of-group n (rowsOf n down) (rowsOf n held₁) proper-down proper-held (D .group) Z (q - 1) hq
+          false)
 
       measured-here : SameGroup n n (measuredRows n (rowsOf n held₁) Z (q - 1) one) (rowsOf n held₂)
-      measured-here = subst (λ k. SameGroup k k (measuredRows k (rowsOf k held₁) Z (q - 1) one) (rowsOf k held₂)) (D .long) (G .group)
+      measured-here = subst (λ k. SameGroup k k (measuredRows k (rowsOf k held₁) Z (q - 1) one) (rowsOf k held₂))
+          (D .long) (G .group)
 
       further-group : SameGroup n n (rowsOf n (further n down (q - 1))) (rowsOf n held₂)
       further-group =
           same-trans
-          (same-sym (same-group n (measuredRows n (rowsOf n down) Z (q - 1) (contradicts n (rowsOf n down) Z (q - 1) false))
+          (same-sym (same-group n (measuredRows n (rowsOf n down) Z (q - 1)
+          (contradicts n (rowsOf n down) Z (q - 1) false))
           (measured-proper n (rowsOf n down) proper-down Z (q - 1) hq (contradicts n (rowsOf n down) Z (q - 1) false))))
           (subst (λ b. SameGroup n n (measuredRows n (rowsOf n down) Z (q - 1) b) (rowsOf n held₂)) is-one
-          (same-trans (measured-of-group n Z (q - 1) hq (rowsOf n down) (rowsOf n held₁) proper-down proper-held (D .group) one)
+          (same-trans (measured-of-group n Z (q - 1) hq (rowsOf n down) (rowsOf n held₁) proper-down proper-held
+          (D .group) one)
           measured-here))
 
       next-group : SameGroup n n (rowsOf n (recordsDown n r (n - (q - 1)))) (rowsOf n held₂)

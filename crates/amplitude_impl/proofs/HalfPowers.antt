@@ -52,8 +52,10 @@ all = refl
 
 pub pattern-is : (r : ℕ) → r ≤ 64 → ofBits binary64 (pattern r) ≡ halves r
 pattern-is r h = power-is (negℤ (pos r)) _
-    (subst T (sym (both-true (isPower (negℤ (pos r)) (ofBits binary64 (pattern r))) _ (every-at 65 test all r (omega arith)) .0)) tt)
+    (subst T (sym (both-true (isPower (negℤ (pos r)) (ofBits binary64 (pattern r))) _
+    (every-at 65 test all r (omega arith)) .0)) tt)
 
 pub pattern-good : (r : ℕ) → r ≤ 64 → T (not (nanBits binary64 (pattern r)))
 pattern-good r h =
-    subst T (sym (both-true (isPower (negℤ (pos r)) (ofBits binary64 (pattern r))) _ (every-at 65 test all r (omega arith)) .1)) tt
+    subst T (sym (both-true (isPower (negℤ (pos r)) (ofBits binary64 (pattern r))) _
+    (every-at 65 test all r (omega arith)) .1)) tt

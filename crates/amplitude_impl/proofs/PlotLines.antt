@@ -70,8 +70,10 @@ module _ (words codes : List ℕ) (low : ℕ) (P : Plottable words codes low) wh
         → not s ≡ false → (a : Amplitude) → a ≡ turned ((there + 3 * here % 4) % 4)
         → a ≡ amplitudeOf (length words) (heldRows (recordIn words codes)) y
     value-there s h f a v = v
-        ∙ ap turned (ap₂ (λ a b. (a + 3 * b % 4) % 4) e d ∙ turns-over (keptTurns n r (bit y)) (keptTurns n r (bit low)))
-        ∙ sym (answer-is y ∙ ap (λ b. cond b (turned (exponent (over (keptTurns n r (bit y)) (keptTurns n r (bit low))))) Nothing)
+        ∙ ap turned (ap₂ (λ a b. (a + 3 * b % 4) % 4) e d ∙ turns-over (keptTurns n r (bit y))
+        (keptTurns n r (bit low)))
+        ∙ sym (answer-is y ∙ ap (λ b. cond b (turned (exponent
+        (over (keptTurns n r (bit y)) (keptTurns n r (bit low))))) Nothing)
         (sym h ∙ not-false s f))
 
   -- ---- its line

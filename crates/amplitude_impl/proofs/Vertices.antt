@@ -26,7 +26,8 @@ pub dot-below : (a b j one : ℕ) (r : Bool) → one ≡ 2 ^ j → r ≡ dot (bi
 unfolding dot
 dot-below a b j one r e h =
     h ∙ ap (λ m. dot (bitAnd a (m - 1)) b) e
-    ∙ parity-ones j (bitAnd low b) (lt-of-le-of-lt (and-le-l low b) (lt-of-le-of-lt (and-le-r a (2 ^ j - 1)) (ones-lt j)))
+    ∙ parity-ones j (bitAnd low b) (lt-of-le-of-lt (and-le-l low b)
+    (lt-of-le-of-lt (and-le-r a (2 ^ j - 1)) (ones-lt j)))
     ∙ fold-ext false _⊕_ j (λ q l. bit-and low b q ∙ ap (λ v. v && bit b q)
     (bit-and a (2 ^ j - 1) q ∙ ap (λ v. bit a q && v) (bit-mask j q l) ∙ and-true (bit a q)))
   where

@@ -104,7 +104,8 @@ is-first (here e) a z = e
 is-first (later {l} e f) a z = absurd (never-apart (l .number) f a (sym z))
 
 -- a number that none of these lines has comes from the later ones
-pub skips : (ls : List Refusal) {ms : List Refusal} {k : ℕ} (m : ℕ) → apart m ls ≡ true → k ≡ m → FirstFits (ls ++ ms) k →
+pub skips : (ls : List Refusal) {ms : List Refusal} {k : ℕ} (m : ℕ) → apart m ls ≡ true → k ≡ m → FirstFits (ls ++ ms) k
+    →
     NoneHolds ls × FirstFits ms k
 skips [] m a z f = (tt, f)
 skips (l ∷ ls) {ms} {k} m a z f = go (eqb m (l .number)) refl a (λ b. skips ls m b z)

@@ -1,4 +1,5 @@
--- Lines and sentences: where each test decides its sentence, the first fitting line has the number of the first true one.
+-- Lines and sentences: where each test decides its sentence, the first fitting line has the number of the first true
+-- one.
 use mathlib.Core.Bool.{_&&_, Bool, false, false≢true, not, or-false, true, true≢false, _||_}
 use mathlib.Core.List.{_++_, List, [], _∷_}
 use mathlib.Core.Logic.{inl, inr, _↔_, _⊎_}
@@ -17,7 +18,16 @@ use Rattle.words.specs.Bits.{bit}
 use Rattle.words.specs.Search.{first, some}
 use Rattle.buffers.proofs.Lines.{fits, none-fits, passed}
 use Rattle.buffers.specs.Refusals.{Refusal, badCount, firstFitting, line, otherThan, reaching}
-use Rattle.buffers.specs.Sentences.{BadCount, FirstTrue, OtherLength, Sentence, SomeAbove, SomeStray, Stray, sentence}
+use Rattle.buffers.specs.Sentences.{
+  BadCount,
+  FirstTrue,
+  OtherLength,
+  Sentence,
+  SomeAbove,
+  SomeStray,
+  Stray,
+  sentence,
+}
 
 -- the test is true exactly if the sentence is
 abbrev pub Decides : Bool → Type 0 → Type 0
@@ -141,7 +151,8 @@ stray n word = (
     | inl s ↦ let F = some-true word bits s in
         let h = both-true (leb n (first word bits)) (bit word (first word bits)) (F .passes) in
         (first word bits, leb-true n _ (h .0), h .1)
-    | inr none ↦ absurd (lt-irrefl word (lt-of-lt-of-le (lt-of-bits n word (λ q l. dark none q l)) (leb-true (2 ^ n) word e)))
+    | inr none ↦ absurd (lt-irrefl word (lt-of-lt-of-le (lt-of-bits n word (λ q l. dark none q l))
+        (leb-true (2 ^ n) word e)))
   ]),
   (λ s. elim (by-case (leb (2 ^ n) word)) [
     | inl e ↦ e

@@ -121,9 +121,11 @@ module _ (limited : Bool) (l m : GeneratorList) (choice list : List ℕ) (count 
 -- two lists on the same number of qubits
 pub same-count : (limited : Bool) (n n₂ : ℕ) → n ≡ n₂ → (s z x s₂ z₂ x₂ choice list : List ℕ) (count r : ℕ)
     (choice′ list′ : List ℕ) (count′ : ℕ) →
-    Call (comparingCall limited (record { n = n; signs = s; z = z; x = x }) (record { n = n; signs = s₂; z = z₂; x = x₂ })
+    Call (comparingCall limited (record { n = n; signs = s; z = z; x = x })
+    (record { n = n; signs = s₂; z = z₂; x = x₂ })
     choice list count choice′ list′ count′) r →
-    Call (comparingCall limited (record { n = n; signs = s; z = z; x = x }) (record { n = n₂; signs = s₂; z = z₂; x = x₂ })
+    Call (comparingCall limited (record { n = n; signs = s; z = z; x = x })
+    (record { n = n₂; signs = s₂; z = z₂; x = x₂ })
     choice list count choice′ list′ count′) r
 same-count limited n n₂ e s z x s₂ z₂ x₂ choice list count r choice′ list′ count′ =
     subst (λ k. Call (comparingCall limited (record { n = n; signs = s; z = z; x = x })

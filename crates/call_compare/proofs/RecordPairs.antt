@@ -1,4 +1,5 @@
--- The call on two records, from what the functions below it answer: the number of two records together is the earlier of
+-- The call on two records, from what the functions below it answer: the number of two records together is the earlier
+-- of
 -- their numbers, and reduced copies hold the reduced records of the records' generators.
 use mathlib.Core.Bool.{Bool, false, true, _||_}
 use mathlib.Core.List.{List}
@@ -114,6 +115,7 @@ module _ (limited : Bool) (l m : LentRecord) (choice list : List ℕ) where
           PairAnswered limited (l .n) (heldRows l) (heldRows other) choice list count k choice′ list′ count′ →
           Call (comparingRecordsCall limited l m choice list count choice′ list′ count′) k
       compare-decided {count} {k} {choice′} {list′} {count′} P =
-          let Q = subst (λ s. PairAnswered limited (l .n) (heldRows l) (heldRows s) choice list count k choice′ list′ count′)
+          let Q = subst (λ s. PairAnswered limited (l .n) (heldRows l) (heldRows s) choice list count k choice′ list′
+          count′)
           other-is P in
           records-answered l m choice list p (sym early-is ∙ a) Q

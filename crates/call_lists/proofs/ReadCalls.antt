@@ -113,6 +113,9 @@ module _ (t signs zs xs : List ℕ) (n : ℕ) (c : stringForm t ≡ true → n �
                 ∙ ap (λ m. (listOf m (λ j. rowOf (byteAt m t j))) .signs) lines,
             (
               copied zs z₁ _ (read-formed .z-fit) ez pz ∙ ap (λ m. (listOf m (λ j. rowOf (byteAt m t j))) .z) lines,
-              (copied xs x₁ _ (read-formed .x-fit) ex px ∙ ap (λ m. (listOf m (λ j. rowOf (byteAt m t j))) .x) lines, tt),
+              (
+                copied xs x₁ _ (read-formed .x-fit) ex px ∙ ap (λ m. (listOf m (λ j. rowOf (byteAt m t j))) .x) lines,
+                tt,
+              ),
             ),
           )

@@ -15,7 +15,15 @@ use Rattle.buffers.proofs.Fitting.{stays}
 use Rattle.buffers.specs.Calls.{Call}
 use Rattle.parties_impl.proofs.EarlyNumbers.{early-admitted, early-refused}
 use Rattle.parties_impl.specs.internal.BeforeEight.{Admitted, PutBack, beforeEight}
-use Rattle.source.proofs.ObservedParties.{like, like-a-gate, like-six, likeCode, lines-number, observed-alone, observedSix}
+use Rattle.source.proofs.ObservedParties.{
+  like,
+  like-a-gate,
+  like-six,
+  likeCode,
+  lines-number,
+  observed-alone,
+  observedSix,
+}
 use Rattle.source.specs.PartySources.{partyObserveLines, partyRenewLines}
 use Rattle.parties.specs.PartyLines.{outsider}
 use Rattle.parties.specs.Masks.{inParty, masked}
@@ -30,24 +38,29 @@ use Rattle.words.specs.Bits.{bit, wordOf}
 module _ (word g : ℕ) (u : UsedRecord) (pauli q b : ℕ) where
   -- ---- the lines before 8
   module _ {k : ℕ}
-      (e : k ≡ firstFitting (beforeEight word g u (observedSix pauli b) (outsider (inParty word g) (u .held .n) q))) where
-    early : k ≡ firstFitting (beforeEight word g u (leb 24 (likeCode pauli b)) (outsider (inParty word g) (u .held .n) q))
-    early = e ∙ ap (λ s. firstFitting (beforeEight word g u s (outsider (inParty word g) (u .held .n) q))) (like-six pauli b)
+      (e : k ≡ firstFitting (beforeEight word g u (observedSix pauli b) (outsider (inParty word g) (u .held .n) q)))
+    where
+      early : k ≡ firstFitting (beforeEight word g u (leb 24 (likeCode pauli b))
+          (outsider (inParty word g) (u .held .n) q))
+      early = e ∙ ap (λ s. firstFitting (beforeEight word g u s (outsider (inParty word g) (u .held .n) q)))
+          (like-six pauli b)
 
-    pub observe-early : (k ≡ 0 → ⊥) → k ≡ firstFitting (partyObserveLines word g u pauli q b)
-    observe-early h = early-refused word g u (like word g u pauli q b) (gate-op q (likeCode pauli b)) early h
-        ∙ sym (ap firstFitting (like-a-gate word g u pauli q b))
+      pub observe-early : (k ≡ 0 → ⊥) → k ≡ firstFitting (partyObserveLines word g u pauli q b)
+      observe-early h = early-refused word g u (like word g u pauli q b) (gate-op q (likeCode pauli b)) early h
+          ∙ sym (ap firstFitting (like-a-gate word g u pauli q b))
 
-    pub observe-admitted : k ≡ 0 → Admitted word g u (measurementOf pauli q b)
-    observe-admitted z = let A = early-admitted word g u (like word g u pauli q b) early z in
-        record { apart = A .apart; low = A .low; own = A .own }
+      pub observe-admitted : k ≡ 0 → Admitted word g u (measurementOf pauli q b)
+      observe-admitted z = let A = early-admitted word g u (like word g u pauli q b) early z in
+          record { apart = A .apart; low = A .low; own = A .own }
 
   -- ---- the call on the copy
   module _ (A : Admitted word g u (measurementOf pauli q b)) {v : UsedRecord} (copied : v ≡ masked (inParty word g) u)
       {answer determined r : ℕ} {nb cs : List ℕ} {own answer′ determined′ : ℕ}
       (C : Call (observeCall v pauli q b answer determined nb cs own answer′ determined′) r) where
-    arguments-like : (w : UsedRecord) → usedArgumentsOf w (measurementOf pauli q b) ≡ usedLinesOf w (like word g u pauli q b)
-    arguments-like w = ap (λ s. withUsed w (bit (w .used) q) (inPlaceLines (w .held) s (leb (w .held .n) q))) (like-six pauli b)
+    arguments-like : (w : UsedRecord) → usedArgumentsOf w (measurementOf pauli q b) ≡ usedLinesOf w
+        (like word g u pauli q b)
+    arguments-like w = ap (λ s. withUsed w (bit (w .used) q) (inPlaceLines (w .held) s (leb (w .held .n) q)))
+        (like-six pauli b)
 
     number : r ≡ firstFitting (partyObserveLines word g u pauli q b)
     number = C .number ∙ ap (λ w. firstFitting (usedArgumentsOf w (measurementOf pauli q b))) copied
@@ -74,13 +87,17 @@ module _ (word g : ℕ) (u : UsedRecord) (pauli q b : ℕ) where
         passes : firstFitting (partyObserveLines word g u pauli q b) ≡ 0
         passes = sym number ∙ z
 
-        observed : Call (observeCall (masked (inParty word g) u) pauli q b answer determined nb cs own answer′ determined′) 0
-        observed = subst (λ k. Call (observeCall (masked (inParty word g) u) pauli q b answer determined nb cs own answer′ determined′) k) z
+        observed : Call (observeCall (masked (inParty word g) u) pauli q b answer determined nb cs own answer′
+            determined′) 0
+        observed = subst (λ k. Call (observeCall (masked (inParty word g) u) pauli q b answer determined nb cs own
+            answer′ determined′) k) z
             (subst (λ w. Call (observeCall w pauli q b answer determined nb cs own answer′ determined′) r) copied C)
 
-        on-copy : Call (usedMeasureCall (masked (inParty word g) u) pauli q (answered u pauli q b) answer determined nb cs own
+        on-copy : Call (usedMeasureCall (masked (inParty word g) u) pauli q (answered u pauli q b) answer determined nb
+            cs own
             answer′ determined′) 0
-        on-copy = subst (λ k. Call (usedMeasureCall (masked (inParty word g) u) pauli q k answer determined nb cs own answer′
+        on-copy = subst (λ k. Call (usedMeasureCall (masked (inParty word g) u) pauli q k answer determined nb cs own
+            answer′
             determined′) 0) (sym (ap outcomeNumber (observed-alone word g u pauli q b passes (A .apart))))
             (observe-as-measured (masked (inParty word g) u) pauli q b observed)
 
@@ -93,7 +110,8 @@ module _ (word g : ℕ) (u : UsedRecord) (q k : ℕ) {r : ℕ}
 
   pub renew-admitted : r ≡ 0 → Admitted word g u (gateWith q (cond (not (usedCode k)) 24 0))
   renew-admitted z = early-admitted word g u (gateWith q (cond (not (usedCode k)) 24 0))
-      (e ∙ ap (λ s. firstFitting (beforeEight word g u s (outsider (inParty word g) (u .held .n) q))) (again (not (usedCode k)))) z
+      (e ∙ ap (λ s. firstFitting (beforeEight word g u s (outsider (inParty word g) (u .held .n) q)))
+      (again (not (usedCode k)))) z
     where
       again : (s : Bool) → s ≡ leb 24 (cond s 24 0)
       again true = refl

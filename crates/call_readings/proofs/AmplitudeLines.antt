@@ -27,7 +27,8 @@ module _ (u : UsedRecord) (y : ℕ) (e : firstFitting (amplitudeLines u y) ≡ 0
   pub amplitude-unrefused : Unrefused (recordIn (u .held .neighbours) (u .held .codes))
   amplitude-unrefused =
       record {
-        no-line = subst (λ m. firstFitting (recordLines (lentRecord m (u .held .neighbours) (u .held .codes)) false false) ≡ 0) long no-record-line;
+        no-line = subst (λ m. firstFitting (recordLines (lentRecord m (u .held .neighbours) (u .held .codes)) false
+            false) ≡ 0) long no-record-line;
       }
 
   pub line-held : (l : PlotLine) → l ≡ plotAt (length (u .held .neighbours))

@@ -30,7 +30,8 @@ module _ (u : UsedRecord) (s z x : List ℕ) (others : Bool)
   expand-refused h = refused _ at-lines h (refl, (refl, (refl, tt)))
 
   module _ (a : k ≡ 0) where
-    lines : (firstFitting (recordLines (u .held) others false) ≡ 0) × ((usedStray u || leb (2 ^ (u .held .n)) 0) ≡ false)
+    lines : (firstFitting (recordLines (u .held) others false) ≡ 0) ×
+        ((usedStray u || leb (2 ^ (u .held .n)) 0) ≡ false)
         × (usedWrong u ≡ false)
     lines = lines-pass u others (leb (2 ^ (u .held .n)) 0) false .0 (sym e ∙ a)
 

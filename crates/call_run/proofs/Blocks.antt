@@ -66,7 +66,8 @@ module _ (u : UsedRecord) (steps : List Step) (count : ℕ) (before : List ℕ) 
       record {
         bound = few;
         ran = subst (λ t. WaitingRun u t 0 before nb′ cs′ used′ after) (take-more k m steps)
-            (ran-on u (take k steps) 0 before nb cs used mid (R .ran) (omega (arith, long)) (take m (drop k steps)) nb′ cs′
+            (ran-on u (take k steps) 0 before nb cs used mid (R .ran) (omega (arith, long)) (take m (drop k steps)) nb′
+            cs′
             used′ after
             (subst (λ t. WaitingRun (usedRecord (u .held .n) nb cs used) t (0 + length (take k steps)) mid
             nb′ cs′ used′ after) e

@@ -1,4 +1,5 @@
--- A lent slice and its token, as a function holds them that lends the slice again to a call: it goes out at a lifetime of
+-- A lent slice and its token, as a function holds them that lends the slice again to a call: it goes out at a lifetime
+-- of
 -- the call, and comes in at its last list.
 -- Assumes `Given`.
 use mathlib.Core.List.{List, [], _∷_}
@@ -80,21 +81,26 @@ module _ (R : RattleType) (L : Lent R) where
   abbrev pub Token : ℕ × GName → Fml
   Token g = flft (g .0 ∷ []) fullShare
 
-  module _ {M : Type 1} (𝓤 : URA M) (H : Heap 𝓤) (A : Atoms 𝓤) (W : Given 𝓤 H A) (ℓ ℓ′ : Lifetime) (l : List (R .Denot)) (long : length l ≡ length (L .first)) where
+  module _ {M : Type 1} (𝓤 : URA M) (H : Heap 𝓤) (A : Atoms 𝓤) (W : Given 𝓤 H A) (ℓ ℓ′ : Lifetime) (l : List (R .Denot))
+      (long : length l ≡ length (L .first)) where
     pub goes-out : ent 𝓤 (sem 𝓤 H A (Holds ℓ l)) (H .⇛ (ex 𝓤 (λ (g : ℕ × GName).
         sep 𝓤 (sem 𝓤 H A (Token g)) (sep 𝓤 (sem 𝓤 H A (Out ℓ′ g l)) (sem 𝓤 H A (Kept g l))))))
     goes-out =
         qed W (‵ (Holds ℓ l) ∷ []) ∵ updating ! $ fsplit ! $ lft-new ! tt (λ ν. move ! (1 ∷ 2 ∷ []) $
         use2 W (later (some (λ (δ : GName). ‵ (Out ℓ′ (ν, δ) l) ⊛ ‵ (Kept (ν, δ) l))))
-        (lends-again R (L .κ) (ν ∷ []) (L .q) (L .γ) (L .b) (L .o) 𝓤 H A W ℓ ℓ′ l (length (L .first)) long) $ await ! tt $ pick ! (λ δ. split ! $
-        at-once ! $ show ! (λ (g : ℕ × GName). sep 𝓤 (sem 𝓤 H A (Token g)) (sep 𝓤 (sem 𝓤 H A (Out ℓ′ g l)) (sem 𝓤 H A (Kept g l)))) (ν, δ) $
+        (lends-again R (L .κ) (ν ∷ []) (L .q) (L .γ) (L .b) (L .o) 𝓤 H A W ℓ ℓ′ l (length (L .first)) long) $ await ! tt
+        $ pick ! (λ δ. split ! $
+        at-once ! $ show ! (λ (g : ℕ × GName). sep 𝓤 (sem 𝓤 H A (Token g))
+        (sep 𝓤 (sem 𝓤 H A (Out ℓ′ g l)) (sem 𝓤 H A (Kept g l)))) (ν, δ) $
         move ! (2 ∷ 0 ∷ 1 ∷ []) $ done !))
 
     -- .. at its last list l′
     pub comes-in : Room R (length (L .first)) → (g : ℕ × GName) (l′ : List (R .Denot)) → length l′ ≡ length l
-        → ent 𝓤 (sep 𝓤 (sem 𝓤 H A (Token g)) (sep 𝓤 (sem 𝓤 H A (Kept g l)) (sem 𝓤 H A (finally R (g .1) l′)))) (H .⇛ (sem 𝓤 H A (Holds ℓ l′)))
+        → ent 𝓤 (sep 𝓤 (sem 𝓤 H A (Token g)) (sep 𝓤 (sem 𝓤 H A (Kept g l)) (sem 𝓤 H A (finally R (g .1) l′))))
+        (H .⇛ (sem 𝓤 H A (Holds ℓ l′)))
     comes-in room g l′ same =
         qed W (‵ (Token g) ∷ ‵ (Kept g l) ∷ ‵ (finally R (g .1) l′) ∷ []) ∵ updating ! $ lft-end ! tt $
         use3 W (later (‵ (Own ℓ l′) ⊛ ‵ (flft (L .κ) (L .q))))
-        (comes-back R (L .κ) (g .0 ∷ []) (L .q) (L .γ) (L .b) (L .o) 𝓤 H A W ℓ ℓ′ l (length (L .first)) long room (g .1) l′ same) $
+        (comes-back R (L .κ) (g .0 ∷ []) (L .q) (L .γ) (L .b) (L .o) 𝓤 H A W ℓ ℓ′ l (length (L .first)) long room (g .1)
+        l′ same) $
         await ! tt $ split ! $ fjoin ! $ at-once ! $ done !

@@ -97,7 +97,16 @@ module _ (X : Passed) where
     T .n,
     (
       ref u64 L₀ (L₀ .γ) (L₀ .first),
-      (ref u8 L₁ (L₁ .γ) (L₁ .first), (X .used, (ref R L₂ (L₂ .γ) (L₂ .first), (T .place, (ref u8 L₃ (L₃ .γ) (L₃ .first), tt))))),
+      (
+        ref u8 L₁ (L₁ .γ) (L₁ .first),
+        (
+          X .used,
+          (
+            ref R L₂ (L₂ .γ) (L₂ .first),
+            (T .place, (ref u8 L₃ (L₃ .γ) (L₃ .first), tt)),
+          ),
+        ),
+      ),
     ),
   )
 
@@ -134,31 +143,37 @@ module _ (X : Passed) where
   -- ---- a call: what is given for it, and what is had after it
   abbrev pub given-for : List Fml
   given-for =
-      flft (L₀ .κ) (L₀ .q) ∷ flft (L₁ .κ) (L₁ .q) ∷ Lasting ∷ flft (L₃ .κ) (L₃ .q) ∷ Own u64 L₀ (named 0) (L₀ .first) ∷ Own u8 L₁ (named 1) (L₁ .first)
+      flft (L₀ .κ) (L₀ .q) ∷ flft (L₁ .κ) (L₁ .q) ∷ Lasting ∷ flft (L₃ .κ) (L₃ .q) ∷ Own u64 L₀ (named 0) (L₀ .first) ∷
+      Own u8 L₁ (named 1) (L₁ .first)
       ∷ Steps ∷ Own u8 L₃ (named 3) (L₃ .first) ∷ []
 
   -- the tokens, and the last lists, but for the token of the steps
   abbrev pub Done : Now → Fml
   Done y =
       fsep (flft (L₀ .κ) (L₀ .q)) (fsep (flft (L₁ .κ) (L₁ .q)) (fsep (flft (L₃ .κ) (L₃ .q))
-      (fsep (finally u64 (L₀ .γ) (y .neighbours)) (fsep (finally u8 (L₁ .γ) (y .codes)) (finally u8 (L₃ .γ) (y .answers))))))
+      (fsep (finally u64 (L₀ .γ) (y .neighbours)) (fsep (finally u8 (L₁ .γ) (y .codes))
+      (finally u8 (L₃ .γ) (y .answers))))))
 
   pub record Returned (v : Val) (y : Now) : Type 0 where
     pub is : v ≡ vint w64 (y .used)
     pub fits : Fitting T y
     pub ran : Ran y
 
-  module _ {M : Type 1} (𝓤 : URA M) (H : Heap 𝓤) (A : Atoms 𝓤) (W : Given 𝓤 H A) (mem : Memory → SProp 𝓤) (run : Routine → Fun 𝓤) where
+  module _ {M : Type 1} (𝓤 : URA M) (H : Heap 𝓤) (A : Atoms 𝓤) (W : Given 𝓤 H A) (mem : Memory → SProp 𝓤)
+      (run : Routine → Fun 𝓤) where
     abbrev pub to : RunLent 𝓤 H A mem run .Ghost
     to = ((κs, qs, tt, args, at-entry), tt)
 
     pub called : Sized → Asks → ent 𝓤 (⋆ 𝓤 H A (map ‵ given-for)) (RunLent 𝓤 H A mem run .pre to)
     called G asks =
         qed W (map ‵ given-for) ∵ says ! asks $
-        nothing ! $ move ! (4 ∷ 0 ∷ []) $ join ! $ move ! (3 ∷ 0 ∷ []) $ join ! $ move ! (2 ∷ 0 ∷ []) $ join ! $ move ! (1 ∷ 0 ∷ []) $ join ! $ frame ! $
-        nothing ! $ move ! (4 ∷ 0 ∷ []) $ fjoin ! $ owned ! usize (Is usize) (uint-makes 𝓤 H A W w64) (T .place) _ (refl, G .place) $ fjoin ! $ move ! (3 ∷ 0 ∷ []) $ fjoin ! $
+        nothing ! $ move ! (4 ∷ 0 ∷ []) $ join ! $ move ! (3 ∷ 0 ∷ []) $ join ! $ move ! (2 ∷ 0 ∷ []) $ join ! $ move !
+        (1 ∷ 0 ∷ []) $ join ! $ frame ! $
+        nothing ! $ move ! (4 ∷ 0 ∷ []) $ fjoin ! $ owned ! usize (Is usize) (uint-makes 𝓤 H A W w64) (T .place) _
+        (refl, G .place) $ fjoin ! $ move ! (3 ∷ 0 ∷ []) $ fjoin ! $
         owned ! u64 (Is u64) (uint-makes 𝓤 H A W w64) (X .used) _ (refl, G .used) $ fjoin ! $
-        move ! (2 ∷ 0 ∷ []) $ fjoin ! $ move ! (1 ∷ 0 ∷ []) $ fjoin ! $ owned ! u64 (Is u64) (uint-makes 𝓤 H A W w64) (T .n) _ (refl, G .n) $ fjoin ! $ done !
+        move ! (2 ∷ 0 ∷ []) $ fjoin ! $ move ! (1 ∷ 0 ∷ []) $ fjoin ! $ owned ! u64 (Is u64) (uint-makes 𝓤 H A W w64)
+        (T .n) _ (refl, G .n) $ fjoin ! $ done !
 
     abbrev Ends : Type 0
     Ends = Unit {0} × (List ℕ × (List ℕ × (Unit {0} × (Unit {0} × (Unit {0} × (List ℕ × Unit {0}))))))
@@ -169,19 +184,32 @@ module _ (X : Passed) where
     abbrev Said : ℕ → SProp 𝓤
     Said r = ensured 𝓤 H A run-lent.ended (run-lent.clauses 𝓤 H A mem run) κs args tt r
 
-    pub returned : (v : Val) → ent 𝓤 (RunLent 𝓤 H A mem run .post to v) (H .⇛ (ex 𝓤 (λ (y : Now). guard 𝓤 (Returned v y) (sep 𝓤 (sem 𝓤 H A Lasting) (sem 𝓤 H A (Done y))))))
+    pub returned : (v : Val) → ent 𝓤 (RunLent 𝓤 H A mem run .post to v)
+        (H .⇛ (ex 𝓤 (λ (y : Now). guard 𝓤 (Returned v y) (sep 𝓤 (sem 𝓤 H A Lasting) (sem 𝓤 H A (Done y))))))
     returned v =
         qed W (raw (RunLent 𝓤 H A mem run .post to v) ∷ []) ∵ updating ! $
-        use1 W (later (some (λ (r : ℕ). ((‵ (flft (L₀ .κ) (L₀ .q)) ⊛ (‵ (flft (L₁ .κ) (L₁ .q)) ⊛ (‵ Lasting ⊛ (‵ (flft (L₃ .κ) (L₃ .q)) ⊛ ‵ ftrue)))) ⊛ ‵ (u64 .own r (v ∷ []))) ⊛ raw (Said r))))
+        use1 W (later (some (λ (r : ℕ). ((‵ (flft (L₀ .κ) (L₀ .q)) ⊛
+        (‵ (flft (L₁ .κ) (L₁ .q)) ⊛ (‵ Lasting ⊛ (‵ (flft (L₃ .κ) (L₃ .q)) ⊛ ‵ ftrue)))) ⊛ ‵ (u64 .own r (v ∷ [])))
+        ⊛ raw (Said r))))
         (id⊢ 𝓤 _) $ await ! tt $ pick ! (λ r. split ! $ move ! (1 ∷ []) $
-        use1 W (some (λ (ws : Ends). ‵ (lasts run-lent.ended κs args ws) ⊛ raw (fact 𝓤 (Ran (after ws r))))) (id⊢ 𝓤 _) $ pick ! (λ ws.
+        use1 W (some (λ (ws : Ends). ‵ (lasts run-lent.ended κs args ws) ⊛ raw (fact 𝓤 (Ran (after ws r))))) (id⊢ 𝓤 _) $
+        pick ! (λ ws.
         split ! $ move ! (1 ∷ []) $ heard ! (Ran (after ws r)) (λ e. fsplit ! $ dropᴷ ! $ fsplit ! $ fsplit ! $
-        move ! (1 ∷ []) $ feqL ! (λ e₀. move ! (1 ∷ []) $ fsplit ! $ fsplit ! $ move ! (1 ∷ []) $ feqL ! (λ e₁. move ! (1 ∷ []) $ fsplit ! $ dropᴷ ! $
-        fsplit ! $ dropᴷ ! $ fsplit ! $ dropᴷ ! $ fsplit ! $ fsplit ! $ move ! (1 ∷ []) $ feqL ! (λ e₃. move ! (4 ∷ []) $ split ! $
+        move ! (1 ∷ []) $ feqL ! (λ e₀. move ! (1 ∷ []) $ fsplit ! $ fsplit ! $ move ! (1 ∷ []) $ feqL !
+        (λ e₁. move ! (1 ∷ []) $ fsplit ! $ dropᴷ ! $
+        fsplit ! $ dropᴷ ! $ fsplit ! $ dropᴷ ! $ fsplit ! $ fsplit ! $ move ! (1 ∷ []) $ feqL !
+        (λ e₃. move ! (4 ∷ []) $ split ! $
         move ! (1 ∷ []) $ facts ! u64 (Is u64) (shows 𝓤 H A u64) r (v ∷ []) (λ is.
         split ! $ move ! (1 ∷ []) $ split ! $ move ! (1 ∷ []) $ split ! $ move ! (1 ∷ []) $ split ! $
-        -- [the token of the answers; -; of the steps; of the codes; of the neighbours; the last answers; -; the last codes; the last neighbours]
-        keep ! (7 ∷ 5 ∷ 8 ∷ 0 ∷ 3 ∷ 4 ∷ 2 ∷ []) $ fjoin ! $ move ! (1 ∷ 0 ∷ []) $ fjoin ! $ move ! (1 ∷ 0 ∷ []) $ fjoin ! $ move ! (1 ∷ 0 ∷ []) $ fjoin ! $
+        -- [the token of the answers; -; of the steps; of the codes; of the neighbours; the last answers; -; the last
+        -- codes; the last neighbours]
+        keep ! (7 ∷ 5 ∷ 8 ∷ 0 ∷ 3 ∷ 4 ∷ 2 ∷ []) $ fjoin ! $ move ! (1 ∷ 0 ∷ []) $ fjoin ! $ move ! (1 ∷ 0 ∷ []) $ fjoin
+        ! $ move ! (1 ∷ 0 ∷ []) $ fjoin ! $
         move ! (1 ∷ 0 ∷ []) $ fjoin ! $ move ! (1 ∷ 0 ∷ []) $ at-once ! $
         show ! (λ (y : Now). guard 𝓤 (Returned v y) (sep 𝓤 (sem 𝓤 H A Lasting) (sem 𝓤 H A (Done y)))) (after ws r) $
-        check ! (record { is = ap only (is .0); fits = record { fits = is .1; neighbours-long = e₀; codes-long = e₁; answers-long = e₃ }; ran = e }) $ done !)))))))
+        check ! (record {
+          is = ap only (is .0);
+          fits = record
+              { fits = is .1; neighbours-long = e₀; codes-long = e₁; answers-long = e₃ };
+          ran = e;
+        }) $ done !)))))))

@@ -103,7 +103,8 @@ body =
     (seq (assign (placeᴹ 17 []) (rvOpd (copy (placeᴹ 16 (deref S′.mir ∷ [])))))
     (seq (assign (placeᴹ 18 []) (addrOf (placeᴹ 7 (field 0 ∷ deref byte ∷ []))))
     (seq (assign (placeᴹ 19 []) (aggregate (copy (placeᴹ 18 []) ∷ copy (placeᴹ 7 (field 1 ∷ [])) ∷ [])))
-    (seq (call #turn (copy (placeᴹ 1 []) ∷ copy (placeᴹ 13 []) ∷ copy (placeᴹ 15 []) ∷ copy (placeᴹ 8 []) ∷ copy (placeᴹ 17 [])
+    (seq (call #turn (copy (placeᴹ 1 []) ∷ copy (placeᴹ 13 []) ∷ copy (placeᴹ 15 []) ∷ copy (placeᴹ 8 []) ∷ copy
+    (placeᴹ 17 [])
     ∷ copy (placeᴹ 6 []) ∷ copy (placeᴹ 9 []) ∷ copy (placeᴹ 19 []) ∷ []) (placeᴹ 8 []))
     (assign (placeᴹ 9 []) (op2 (add unsigned) (copy (placeᴹ 9 [])) (int w64 1)))))))))))))))
 

@@ -32,29 +32,44 @@ stayed = (
       stay-slice (1 ∷ []) tt (plain (λ _. u8)),
       (
         stay-none (λ _. u64) yes,
-        (stay-none-slice (2 ∷ []) tt (plain (λ _. R)) yes, (stay-none (λ _. usize) yes, (stay-slice (3 ∷ []) tt (plain (λ _. u8)), tt))),
+        (
+          stay-none-slice (2 ∷ []) tt (plain (λ _. R)) yes,
+          (
+            stay-none (λ _. usize) yes,
+            (stay-slice (3 ∷ []) tt (plain (λ _. u8)), tt),
+          ),
+        ),
       ),
     ),
   ),
 )
 
-module _ {M : Type 1} (𝓤 : URA M) (H : Heap 𝓤) (A : Atoms 𝓤) (W : Given 𝓤 H A) (mem : Memory → SProp 𝓤) (run : Routine → Fun 𝓤) (X : Passed) where
+module _ {M : Type 1} (𝓤 : URA M) (H : Heap 𝓤) (A : Atoms 𝓤) (W : Given 𝓤 H A) (mem : Memory → SProp 𝓤)
+    (run : Routine → Fun 𝓤) (X : Passed) where
   abbrev T : Turning
   T = X .turning
 
   abbrev pub Post : Val → SProp 𝓤
-  Post = walkOf 𝓤 H A run-lent.ended stayed (run-lent.clauses 𝓤 H A mem run) .post ((κs X, qs X, tt, args X, at-entry X), tt)
+  Post = walkOf 𝓤 H A run-lent.ended stayed (run-lent.clauses 𝓤 H A mem run) .post
+      ((κs X, qs X, tt, args X, at-entry X), tt)
 
   pub exits : (x : Now) → Sized X → Fitting T x → Ran X x
       → ent 𝓤 (⋆ 𝓤 H A (‵ (Buffers T x) ∷ ‵ (Lasting X) ∷ ‵ (Steps X) ∷ [])) (Post (vint w64 (x .used)))
   exits x G F e =
       qed W (‵ (Buffers T x) ∷ ‵ (Lasting X) ∷ ‵ (Steps X) ∷ []) ∵
-      fsplit ! $ fsplit ! $ move ! (2 ∷ []) $ fsplit ! $ fsplit ! $ move ! (2 ∷ []) $ fsplit ! $ move ! (5 ∷ 3 ∷ 6 ∷ 1 ∷ 4 ∷ 2 ∷ 7 ∷ 0 ∷ []) $
-      suffices ! _ (ends-at 𝓤 H A run-lent.ended stayed (run-lent.clauses 𝓤 H A mem run) W ((κs X, qs X, tt, args X, at-entry X), tt) (vint w64 (x .used)) (x .used)
-      (tt, (x .neighbours, (x .codes, (tt, (tt, (tt, (x .answers, tt))))))) (tt, (F .neighbours-long, (F .codes-long, (tt, (tt, (tt, (F .answers-long, tt)))))))) $ says ! e $
-      nothing ! $ move ! (4 ∷ 0 ∷ []) $ join ! $ move ! (3 ∷ 0 ∷ []) $ join ! $ move ! (2 ∷ 0 ∷ []) $ join ! $ move ! (1 ∷ 0 ∷ []) $ join ! $ frame ! $
+      fsplit ! $ fsplit ! $ move ! (2 ∷ []) $ fsplit ! $ fsplit ! $ move ! (2 ∷ []) $ fsplit ! $ move !
+      (5 ∷ 3 ∷ 6 ∷ 1 ∷ 4 ∷ 2 ∷ 7 ∷ 0 ∷ []) $
+      suffices ! _ (ends-at 𝓤 H A run-lent.ended stayed (run-lent.clauses 𝓤 H A mem run) W
+      ((κs X, qs X, tt, args X, at-entry X), tt) (vint w64 (x .used)) (x .used)
+      (tt, (x .neighbours, (x .codes, (tt, (tt, (tt, (x .answers, tt)))))))
+      (tt, (F .neighbours-long, (F .codes-long, (tt, (tt, (tt, (F .answers-long, tt)))))))) $ says ! e $
+      nothing ! $ move ! (4 ∷ 0 ∷ []) $ join ! $ move ! (3 ∷ 0 ∷ []) $ join ! $ move ! (2 ∷ 0 ∷ []) $ join ! $ move !
+      (1 ∷ 0 ∷ []) $ join ! $ frame ! $
       -- [the neighbours; the codes; the steps; the answers]
-      nothing ! $ move ! (4 ∷ 0 ∷ []) $ fjoin ! $ owned ! usize (Is usize) (uint-makes 𝓤 H A W w64) (T .place) _ (refl, G .place) $ fjoin ! $
-      move ! (3 ∷ 0 ∷ []) $ fjoin ! $ owned ! u64 (Is u64) (uint-makes 𝓤 H A W w64) (X .used) _ (refl, G .used) $ fjoin ! $
-      move ! (2 ∷ 0 ∷ []) $ fjoin ! $ move ! (1 ∷ 0 ∷ []) $ fjoin ! $ owned ! u64 (Is u64) (uint-makes 𝓤 H A W w64) (T .n) _ (refl, G .n) $ fjoin ! $ frame ! $
+      nothing ! $ move ! (4 ∷ 0 ∷ []) $ fjoin ! $ owned ! usize (Is usize) (uint-makes 𝓤 H A W w64) (T .place) _
+      (refl, G .place) $ fjoin ! $
+      move ! (3 ∷ 0 ∷ []) $ fjoin ! $ owned ! u64 (Is u64) (uint-makes 𝓤 H A W w64) (X .used) _ (refl, G .used) $ fjoin
+      ! $
+      move ! (2 ∷ 0 ∷ []) $ fjoin ! $ move ! (1 ∷ 0 ∷ []) $ fjoin ! $ owned ! u64 (Is u64) (uint-makes 𝓤 H A W w64)
+      (T .n) _ (refl, G .n) $ fjoin ! $ frame ! $
       owned ! u64 (Is u64) (uint-makes 𝓤 H A W w64) (x .used) _ (refl, F .fits) $ done !

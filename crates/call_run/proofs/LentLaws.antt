@@ -57,7 +57,8 @@ module _ (u : UsedRecord) where
         words = R .words;
         numbers = R .numbers;
         marks = R .marks;
-        answers = ap (set before at) (e ∙ ap (λ t. packed (nextWaiting (s .op) (t .refusal) (markedBefore at before)) t) (R .answer))
+        answers = ap (set before at) (e ∙ ap (λ t. packed (nextWaiting (s .op) (t .refusal) (markedBefore at before)) t)
+            (R .answer))
             ∙ write-one before at _ inside;
       }
 
@@ -92,11 +93,13 @@ module _ (u : UsedRecord) where
           numbers = T .numbers ∙ ap (λ m. m .held .codes) (sym (run-append u xs ys));
           marks = T .marks ∙ ap (λ m. m .used) (sym (run-append u xs ys));
           answers = T .answers
-              ∙ ap (λ b. overwritten mid (at + length xs) (packedAnswers b (run u xs) ys)) (mark-left (omega (arith, room)))
+              ∙ ap (λ b. overwritten mid (at + length xs) (packedAnswers b (run u xs) ys))
+              (mark-left (omega (arith, room)))
               ∙ ap (λ t. overwritten t (at + length xs) more) (R .answers)
               ∙ ap (λ k. overwritten (overwritten before at kept) (at + k) more) (sym long)
               ∙ write-more before at kept (omega (arith, long)) more
-              ∙ ap (overwritten before at) (sym (answers-append (getD (0 ∷ before) at 0) (markedBefore at before) refl u xs ys));
+              ∙ ap (overwritten before at) (sym (answers-append (getD (0 ∷ before) at 0) (markedBefore at before) refl u
+              xs ys));
         }
 
 -- ---- runs on the record that waits
@@ -181,8 +184,10 @@ pub ran-next : (u : UsedRecord) (steps : List Step) (k at : ℕ) (other : Step) 
     → WaitingRun u (take (suc k) steps) at before nb′ cs′ used′ after
 ran-next u steps k at other inside before room nb cs used mid R nb′ cs′ used′ after S =
     subst (λ t. WaitingRun u t at before nb′ cs′ used′ after) (sym (take-suc steps k other inside))
-    (ran-on u (take k steps) at before nb cs used mid R (omega (arith, long)) (getD steps k other ∷ []) nb′ cs′ used′ after
-    (subst (λ m. WaitingRun (usedRecord (u .held .n) nb cs used) (getD steps k other ∷ []) (at + m) mid nb′ cs′ used′ after)
+    (ran-on u (take k steps) at before nb cs used mid R (omega (arith, long)) (getD steps k other ∷ []) nb′ cs′ used′
+    after
+    (subst (λ m. WaitingRun (usedRecord (u .held .n) nb cs used) (getD steps k other ∷ []) (at + m) mid nb′ cs′ used′
+    after)
     (sym long) S))
   where
     long : length (take k steps) ≡ k
@@ -214,8 +219,10 @@ module _ (u : UsedRecord) (steps : List Step) (at : ℕ) (before : List ℕ) whe
 
   module _ (rest k : ℕ) (nb cs : List ℕ) (used : ℕ) (mid : List ℕ) where
     -- a step more
-    pub upto-next : Upto u steps at before (suc rest) k nb cs used mid → at + length steps ≤ length before → (other : Step)
-        → (nb′ cs′ : List ℕ) (used′ : ℕ) (after : List ℕ) → used′ < 2 ^ 64 → length nb′ ≡ length nb → length cs′ ≡ length cs
+    pub upto-next : Upto u steps at before (suc rest) k nb cs used mid → at + length steps ≤ length before →
+        (other : Step)
+        → (nb′ cs′ : List ℕ) (used′ : ℕ) (after : List ℕ) → used′ < 2 ^ 64 → length nb′ ≡ length nb → length cs′ ≡
+        length cs
         → length after ≡ length mid
         → WaitingRun (usedRecord (u .held .n) nb cs used)
         (getD steps k other ∷ []) (at + k) mid nb′ cs′ used′ after
@@ -224,7 +231,8 @@ module _ (u : UsedRecord) (steps : List Step) (at : ℕ) (before : List ℕ) whe
         record {
           count = omega (arith, U .count);
           fits = fits;
-          ran = ran-next u steps k at other (omega (arith, U .count)) before room nb cs used mid (U .ran) nb′ cs′ used′ after R;
+          ran = ran-next u steps k at other (omega (arith, U .count)) before room nb cs used mid (U .ran) nb′ cs′ used′
+              after R;
           neighbours-long = n ∙ U .neighbours-long;
           codes-long = c ∙ U .codes-long;
           answers-long = a ∙ U .answers-long;
@@ -244,4 +252,5 @@ module _ (u : UsedRecord) (steps : List Step) (at : ℕ) (before : List ℕ) whe
 
     -- all of them
     pub upto-all : Upto u steps at before 0 k nb cs used mid → WaitingRun u steps at before nb cs used mid
-    upto-all U = subst (λ t. WaitingRun u t at before nb cs used mid) (take-all k steps (omega (arith, U .count))) (U .ran)
+    upto-all U = subst (λ t. WaitingRun u t at before nb cs used mid) (take-all k steps (omega (arith, U .count)))
+        (U .ran)

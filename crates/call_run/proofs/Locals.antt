@@ -128,17 +128,20 @@ module _ {M : Type 1} (𝓤 : URA M) (H : Heap 𝓤) where
 
     whole : (E : Env 𝓤 H) (os : List (Option Val)) → ent 𝓤 (sep 𝓤 (lies E os) (notes E)) (held E)
     whole [] os = snd∗ 𝓤 (emp 𝓤) (emp 𝓤)
-    whole (e ∷ E) [] = whole-one e E [] (‵ (froom (e .0) (e .1) 0)) (pop 𝓤 H A (‵ (froom (e .0) (e .1) 0)) (lying E [])) (whole E [])
+    whole (e ∷ E) [] = whole-one e E [] (‵ (froom (e .0) (e .1) 0)) (pop 𝓤 H A (‵ (froom (e .0) (e .1) 0)) (lying E []))
+        (whole E [])
     whole (e ∷ E) (none ∷ os) =
         whole-one e E os (‵ (froom (e .0) (e .1) 0)) (pop 𝓤 H A (‵ (froom (e .0) (e .1) 0)) (lying E os)) (whole E os)
     whole (e ∷ E) (holding v ∷ os) =
         whole-one e E os (‵ (fat fullShare (e .0) (e .1) 0 v))
-        (via 𝓤 (sep 𝓤 (H .at fullShare (e .0) (e .1) 0 v) (lies E os)) (pop 𝓤 H A (‵ (fat fullShare (e .0) (e .1) 0 v)) (lying E os))
+        (via 𝓤 (sep 𝓤 (H .at fullShare (e .0) (e .1) 0 v) (lies E os))
+        (pop 𝓤 H A (‵ (fat fullShare (e .0) (e .1) 0 v)) (lying E os))
         (monoL 𝓤 (lies E os) (W .laws .at-room (e .0) (e .1) 0 v))) (whole E os)
 
     -- ---- the arguments are stored
     passed : (ls : List Local) (p : Places ls) (vs : List Val) → Typed ls vs → (P G : SProp 𝓤)
-        → ent 𝓤 (sep 𝓤 (lies (at ls p) (map holding vs)) P) G → ent 𝓤 (sep 𝓤 (lies (at ls p) []) P) (pass 𝓤 H (at ls p) vs G)
+        → ent 𝓤 (sep 𝓤 (lies (at ls p) (map holding vs)) P) G → ent 𝓤 (sep 𝓤 (lies (at ls p) []) P)
+        (pass 𝓤 H (at ls p) vs G)
     passed [] p [] wt P G h = h
     passed [] p (v ∷ vs) wt P G h = absurd wt
     passed (local τ k ∷ ls) p [] wt P G h = h
@@ -159,7 +162,8 @@ module _ {M : Type 1} (𝓤 : URA M) (H : Heap 𝓤) where
 
     -- ---- all of it at the entry
     entered : (ls : List Local) (vs : List Val) → Takes ls vs → (Kt : Env 𝓤 H → SProp 𝓤) (P : SProp 𝓤)
-        → ((p : Places ls) → ent 𝓤 (sep 𝓤 (lies (at ls p) (none ∷ map holding vs)) (sep 𝓤 (notes (at ls p)) P)) (Kt (at ls p)))
+        → ((p : Places ls) → ent 𝓤 (sep 𝓤 (lies (at ls p) (none ∷ map holding vs)) (sep 𝓤 (notes (at ls p)) P))
+        (Kt (at ls p)))
         → ent 𝓤 P (alloc 𝓤 H ls (λ E. params 𝓤 H E vs (Kt E)))
     entered [] vs wt Kt P k = absurd wt
     entered (local τ h ∷ ls) vs wt Kt P k =
@@ -181,10 +185,12 @@ module _ {M : Type 1} (𝓤 : URA M) (H : Heap 𝓤) where
         (monoL 𝓤 Q (push 𝓤 H A (‵ (froom τ (p .0) 0)) (lying E (map holding vs)))) (k p))))))))))
 
 -- ---- the two steps of a walk
-module _ {M : Type 1} {𝓤 : URA M} {H : Heap 𝓤} {A : Atoms 𝓤} (W : Given 𝓤 H A) {Γ : List (Item 𝓤)} (C : Calls 𝓤 H) (Λ : Loops 𝓤 H) where
+module _ {M : Type 1} {𝓤 : URA M} {H : Heap 𝓤} {A : Atoms 𝓤} (W : Given 𝓤 H A) {Γ : List (Item 𝓤)} (C : Calls 𝓤 H)
+    (Λ : Loops 𝓤 H) where
   -- a function is entered
   pub enters : (f : Fn) (vs : List Val) (Kf : Val → SProp 𝓤) → Takes (f .locals) vs
-      → ((p : Places (f .locals)) → Seq (Go {0}) W (lying 𝓤 H (at 𝓤 H (f .locals) p) (none ∷ map holding vs) ++ (‵ (dying 𝓤 H (at 𝓤 H (f .locals) p)) ∷ Γ))
+      → ((p : Places (f .locals)) → Seq (Go {0}) W (lying 𝓤 H (at 𝓤 H (f .locals) p) (none ∷ map holding vs) ++
+      (‵ (dying 𝓤 H (at 𝓤 H (f .locals) p)) ∷ Γ))
       (runs C Λ (at 𝓤 H (f .locals) p) (f .body) (atRet (at 𝓤 H (f .locals) p) Kf)))
       → Seq (Go {0}) W Γ (prop (WpFn 𝓤 H C Λ f vs Kf))
   unfolding WpFn

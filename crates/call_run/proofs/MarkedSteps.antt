@@ -47,7 +47,8 @@ mark-told false r S = lt-leb 128 (0 + (r .refusal * 4 + r .outcome * 2 + r .dete
     (omega (arith, S .refusal, S .outcome, S .determined))
 
 -- the mark behind a place where an answer is kept
-pub mark-kept : (before : List ℕ) (at p : ℕ) → at < length before → (b : Bool) (r : Answer) → SmallAnswer r → p ≡ packed b r
+pub mark-kept : (before : List ℕ) (at p : ℕ) → at < length before → (b : Bool) (r : Answer) → SmallAnswer r → p ≡ packed
+    b r
     → markedBefore (at + 1) (set before at p) ≡ b
 mark-kept before at p inside b r S e =
     ap (λ k. leb 128 (getD (0 ∷ set before at p) k 0)) {x = at + 1} {y = suc at} (omega arith)
@@ -67,8 +68,10 @@ unfolding run packedAnswers
 answers-append p mark e u [] ys = ap (λ b. packedAnswers b u ys) (sym e)
 answers-append p mark e u (x ∷ xs) ys =
     ap (λ t. packed (nextWaiting (x .op) (numberOf u x) mark) (answerOf u x) ∷ t)
-    (answers-append (packed (nextWaiting (x .op) (numberOf u x) mark) (answerOf u x)) (nextWaiting (x .op) (numberOf u x) mark)
-    (mark-told (nextWaiting (x .op) (numberOf u x) mark) (answerOf u x) (small-answer u x (answerOf u x) refl)) (afterStep u x) xs ys)
+    (answers-append (packed (nextWaiting (x .op) (numberOf u x) mark) (answerOf u x))
+    (nextWaiting (x .op) (numberOf u x) mark)
+    (mark-told (nextWaiting (x .op) (numberOf u x) mark) (answerOf u x) (small-answer u x (answerOf u x) refl))
+    (afterStep u x) xs ys)
 
 -- where it stands
 last-of-front : (p : ℕ) (ys zs : List ℕ) → getD (p ∷ (ys ++ zs)) (length ys) 0 ≡ lastOf p ys

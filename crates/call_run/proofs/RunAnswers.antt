@@ -103,7 +103,8 @@ module _ (u : UsedRecord) (s : LentSteps) (asked answered : Bool)
     (e : k ≡ firstFitting (line 15 (ltb 4096 (length (s .ops)))
     ∷ usedLines u (asked || answered) false (reaching 7 (s .ops)))) where
   at-lines : k ≡ firstFitting (runLines u s)
-  at-lines = e ∙ ap (λ b. firstFitting (line 15 (ltb 4096 (length (s .ops))) ∷ usedLines u b false (reaching 7 (s .ops))))
+  at-lines = e ∙ ap (λ b. firstFitting (line 15 (ltb 4096 (length (s .ops))) ∷ usedLines u b false
+      (reaching 7 (s .ops))))
       (ap₂ _||_ ea eb)
 
   pub run-refused : (k ≡ 0 → ⊥) → Call (runCall u s (u .held .neighbours) (u .held .codes) (u .used) (s .refusals)

@@ -205,7 +205,8 @@ module _ (u : UsedRecord) (s : Step) where
         → StepRun u s r nb cs used′
     observed-run g nb cs used′ r C =
         record {
-          answer = answer-as asks (as-asked g) (r .refusal) (r .outcome) (r .determined) (C .number) (C .held .1 .0) (C .held .1 .1 .0);
+          answer = answer-as asks (as-asked g) (r .refusal) (r .outcome) (r .determined) (C .number) (C .held .1 .0)
+              (C .held .1 .1 .0);
           words = left .0 ∙ ap (λ m. m .held .neighbours) after;
           numbers = left .1 ∙ ap (λ m. m .held .codes) after;
           marks = left .2 ∙ ap (λ m. m .used) after;
@@ -236,7 +237,8 @@ module _ (u : UsedRecord) (s : Step) where
           where
             go : Dec (r .refusal ≡ 0) → Left (eqb (r .refusal) 0)
             go (yes z) =
-                let M = observe-as-measured u pauli (s .a) bit (subst (Call (observeCall u pauli (s .a) bit 0 0 nb cs used′
+                let M = observe-as-measured u pauli (s .a) bit
+                (subst (Call (observeCall u pauli (s .a) bit 0 0 nb cs used′
                 (r .outcome) (r .determined))) z C) in
                 let c = left-by-call u measured (record { number = M .number; held = M .held .1 .1 .1 }) in
                 subst Left (sym (eq-eqb (r .refusal) 0 z))
@@ -250,8 +252,10 @@ module _ (u : UsedRecord) (s : Step) where
         → Call (renewCall u (s .a) (s .value) nb cs used′) (r .refusal) → StepRun u s r nb cs used′
     renewed-run g nb cs used′ r N C =
         record {
-          answer = answer-as asks (as-asked g) k (r .outcome) (r .determined) (C .number) (N .outcome ∙ none) (N .determined ∙ none);
-          words = C .held .1 .0 ∙ of-either (λ v. v .held .neighbours) (eqb k 0) new u ∙ ap (λ m. m .held .neighbours) after;
+          answer = answer-as asks (as-asked g) k (r .outcome) (r .determined) (C .number) (N .outcome ∙ none)
+              (N .determined ∙ none);
+          words = C .held .1 .0 ∙ of-either (λ v. v .held .neighbours) (eqb k 0) new u ∙ ap (λ m. m .held .neighbours)
+              after;
           numbers = C .held .1 .1 .0 ∙ of-either (λ v. v .held .codes) (eqb k 0) new u ∙ ap (λ m. m .held .codes) after;
           marks = C .held .0 ∙ of-either (λ v. v .used) (eqb k 0) new u ∙ ap (λ m. m .used) after;
         }

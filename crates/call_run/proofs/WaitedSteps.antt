@@ -44,48 +44,54 @@ step-unrefused v U o = go (ℕ-discrete ((usedStep v o) .number) 0)
   where
     go : Dec ((usedStep v o) .number ≡ 0) → UsedUnrefused ((usedStep v o) .after)
     go (yes z) = record { no-line = used-left v o z .passes }
-    go (no h) = subst (λ b. UsedUnrefused (cond b (record { held = leaves (v .held) o; used = usedAfter v o }) v)) (sym (ne-eqb ((usedStep v o) .number) 0 h)) U
+    go (no h) = subst (λ b. UsedUnrefused (cond b (record { held = leaves (v .held) o; used = usedAfter v o }) v))
+        (sym (ne-eqb ((usedStep v o) .number) 0 h)) U
 
 module _ (waiting : Bool) (u : UsedRecord) (W : Standing waiting u) where
   abbrev v : UsedRecord
   v = meant waiting u
 
   -- ---- an operation that leaves the record as the definitions have it
-  module _ (o : Operation) (words′ codes′ : List ℕ) (k : ℕ) (C : Call (usedCall (meant waiting u) o words′ codes′) k) where
-    rewritten-sound : Unrefused (heldIn u words′ codes′)
-    rewritten-sound = record {
-      no-line = subst (λ t. firstFitting (recordLines t false false) ≡ 0) (sym left)
-          (lines-pass ((usedStep v o) .after) false false false .0 (step-unrefused v (W .checked) o .no-line) .0);
-    }
-      where
-        many : (b : Bool) (t : UsedRecord) → t .held .n ≡ u .held .n → u .held .n ≡ (cond b t v) .held .n
-        many true t e = sym e
-        many false t e = refl
+  module _ (o : Operation) (words′ codes′ : List ℕ) (k : ℕ) (C : Call (usedCall (meant waiting u) o words′ codes′) k)
+    where
+      rewritten-sound : Unrefused (heldIn u words′ codes′)
+      rewritten-sound = record {
+        no-line = subst (λ t. firstFitting (recordLines t false false) ≡ 0) (sym left)
+            (lines-pass ((usedStep v o) .after) false false false .0 (step-unrefused v (W .checked) o .no-line) .0);
+      }
+        where
+          many : (b : Bool) (t : UsedRecord) → t .held .n ≡ u .held .n → u .held .n ≡ (cond b t v) .held .n
+          many true t e = sym e
+          many false t e = refl
 
-        left : heldIn u words′ codes′ ≡ (usedStep v o) .after .held
-        left = λ i. record {
-          n = many (eqb ((usedStep v o) .number) 0) (record { held = leaves (v .held) o; used = usedAfter v o }) refl i;
-          neighbours = left-by-call v o C .0 i;
-          codes = left-by-call v o C .1 i;
-        }
+          left : heldIn u words′ codes′ ≡ (usedStep v o) .after .held
+          left = λ i. record {
+            n = many (eqb ((usedStep v o) .number) 0) (record { held = leaves (v .held) o; used = usedAfter v o }) refl i;
+            neighbours = left-by-call v o C .0 i;
+            codes = left-by-call v o C .1 i;
+          }
 
-    rewritten-call : Call (usedCall (meant waiting u) o
-        ((meantRecord (cond (eqb k 0) false waiting) (heldIn u words′ codes′)) .neighbours)
-        ((meantRecord (cond (eqb k 0) false waiting) (heldIn u words′ codes′)) .codes)) k
-    rewritten-call = go (ℕ-discrete k 0)
-      where
-        Said : Bool → Type 0
-        Said b = Call (usedCall v o ((meantRecord (cond b false waiting) (heldIn u words′ codes′)) .neighbours)
-            ((meantRecord (cond b false waiting) (heldIn u words′ codes′)) .codes)) k
+      rewritten-call : Call (usedCall (meant waiting u) o
+          ((meantRecord (cond (eqb k 0) false waiting) (heldIn u words′ codes′)) .neighbours)
+          ((meantRecord (cond (eqb k 0) false waiting) (heldIn u words′ codes′)) .codes)) k
+      rewritten-call = go (ℕ-discrete k 0)
+        where
+          Said : Bool → Type 0
+          Said b = Call (usedCall v o ((meantRecord (cond b false waiting) (heldIn u words′ codes′)) .neighbours)
+              ((meantRecord (cond b false waiting) (heldIn u words′ codes′)) .codes)) k
 
-        go : Dec (k ≡ 0) → Said (eqb k 0)
-        go (yes z) = subst Said (sym (eq-eqb k 0 z)) C
-        go (no h) =
-            let w = kept-all C h in
-            subst Said (sym (ne-eqb k 0 h)) (refused _ (C .number) h (
-              ap₂ (λ a b. (meantRecord waiting (heldIn u a b)) .neighbours) (w .0) (w .1 .0) ∙ meant-again waiting u W .0,
-              (ap₂ (λ a b. (meantRecord waiting (heldIn u a b)) .codes) (w .0) (w .1 .0) ∙ meant-again waiting u W .1, tt),
-            ))
+          go : Dec (k ≡ 0) → Said (eqb k 0)
+          go (yes z) = subst Said (sym (eq-eqb k 0 z)) C
+          go (no h) =
+              let w = kept-all C h in
+              subst Said (sym (ne-eqb k 0 h)) (refused _ (C .number) h (
+                ap₂ (λ a b. (meantRecord waiting (heldIn u a b)) .neighbours) (w .0) (w .1 .0) ∙ meant-again waiting u
+                    W .0,
+                (
+                  ap₂ (λ a b. (meantRecord waiting (heldIn u a b)) .codes) (w .0) (w .1 .0) ∙ meant-again waiting u W .1,
+                  tt,
+                ),
+              ))
 
   -- ---- by the operation
   module _ {op : Op} (a b value : ℕ) where
@@ -136,7 +142,8 @@ module _ (waiting : Bool) (u : UsedRecord) (W : Standing waiting u) where
     })
 
   -- ---- a new photon
-  module _ (q c : ℕ) (words′ codes′ : List ℕ) (used′ k : ℕ) (C : Call (renewCall (meant waiting u) q c words′ codes′ used′) k)
+  module _ (q c : ℕ) (words′ codes′ : List ℕ) (used′ k : ℕ) (C : Call
+      (renewCall (meant waiting u) q c words′ codes′ used′) k)
     where
       renewed-sound : Unrefused (heldIn u words′ codes′)
       renewed-sound = go (ℕ-discrete k 0)
@@ -174,15 +181,21 @@ module _ (waiting : Bool) (u : UsedRecord) (W : Standing waiting u) where
               subst Said (sym (ne-eqb k 0 h)) (refused _ (C .number) h (
                 w .0,
                 (
-                  ap₂ (λ a b. (meantRecord waiting (heldIn u a b)) .neighbours) (w .1 .0) (w .1 .1 .0) ∙ meant-again waiting u W .0,
-                  (ap₂ (λ a b. (meantRecord waiting (heldIn u a b)) .codes) (w .1 .0) (w .1 .1 .0) ∙ meant-again waiting u W .1, tt),
+                  ap₂ (λ a b. (meantRecord waiting (heldIn u a b)) .neighbours) (w .1 .0) (w .1 .1 .0) ∙ meant-again
+                      waiting u W .0,
+                  (
+                    ap₂ (λ a b. (meantRecord waiting (heldIn u a b)) .codes) (w .1 .0) (w .1 .1 .0) ∙ meant-again waiting
+                        u W .1,
+                    tt,
+                  ),
                 ),
               ))
 
   -- ---- a step
   module _ (s : Step) where
     pub wrong-waited : wrong (meant waiting u) s ≡ true
-        → WaitedStep waiting u s (record { refusal = 6; outcome = 0; determined = 0 }) (u .held .neighbours) (u .held .codes) (u .used)
+        → WaitedStep waiting u s (record { refusal = 6; outcome = 0; determined = 0 }) (u .held .neighbours)
+        (u .held .codes) (u .used)
     wrong-waited e = record { sound = W .sound; run = wrong-run v s e 6 (six-alone v (W .checked) true) }
 
     module _ (e : wrong (meant waiting u) s ≡ false) where
@@ -196,14 +209,16 @@ module _ (waiting : Bool) (u : UsedRecord) (W : Standing waiting u) where
       known-waited : (op : Op) → s .op ≡ op → (words′ codes′ : List ℕ) (used′ : ℕ) (r : Answer)
           → StepRun v s r ((meantRecord (nextWaiting op (r .refusal) waiting) (heldIn u words′ codes′)) .neighbours)
           ((meantRecord (nextWaiting op (r .refusal) waiting) (heldIn u words′ codes′)) .codes) used′
-          → StepRun v s r ((meantRecord (nextWaiting (s .op) (r .refusal) waiting) (heldIn u words′ codes′)) .neighbours)
+          → StepRun v s r ((meantRecord (nextWaiting (s .op) (r .refusal) waiting)
+          (heldIn u words′ codes′)) .neighbours)
           ((meantRecord (nextWaiting (s .op) (r .refusal) waiting) (heldIn u words′ codes′)) .codes) used′
       known-waited op g words′ codes′ used′ r R = subst (λ op. StepRun v s r
           ((meantRecord (nextWaiting op (r .refusal) waiting) (heldIn u words′ codes′)) .neighbours)
           ((meantRecord (nextWaiting op (r .refusal) waiting) (heldIn u words′ codes′)) .codes) used′) (sym g) R
 
       pub measured-waited : s .op ≡ Measure → (words′ codes′ : List ℕ) (used′ : ℕ) (r : Answer)
-          → MeasuredStep waiting u (s .value / 2 + 1) (s .a) (s .value % 2) words′ codes′ used′ (r .outcome) (r .determined) (r .refusal)
+          → MeasuredStep waiting u (s .value / 2 + 1) (s .a) (s .value % 2) words′ codes′ used′ (r .outcome)
+          (r .determined) (r .refusal)
           → WaitedStep waiting u s r words′ codes′ used′
       measured-waited g words′ codes′ used′ r M =
           record {
@@ -212,7 +227,8 @@ module _ (waiting : Bool) (u : UsedRecord) (W : Standing waiting u) where
           }
 
       pub observed-waited : s .op ≡ Observe → (words′ codes′ : List ℕ) (used′ : ℕ) (r : Answer)
-          → ObservedStep waiting u (s .value / 2 + 1) (s .a) (s .value % 2) words′ codes′ used′ (r .outcome) (r .determined) (r .refusal)
+          → ObservedStep waiting u (s .value / 2 + 1) (s .a) (s .value % 2) words′ codes′ used′ (r .outcome)
+          (r .determined) (r .refusal)
           → WaitedStep waiting u s r words′ codes′ used′
       observed-waited g words′ codes′ used′ r O =
           record {

@@ -38,7 +38,8 @@ heldBy r =
 module _ (t : List ℕ) (n : ℕ) (nb cs : List ℕ) (used : ℕ) (r : ReadRecord) (T : TextTold t r) where
   pub read-unformed : r .form ≡ false → Call (readRecordCall t n nb cs used n nb cs used) 1
   read-unformed f =
-      refused _ (first-is (here (ap not (sym (T .form) ∙ f)))) (λ e. absurd (omega (arith, e))) (refl, (refl, (refl, (refl, tt))))
+      refused _ (first-is (here (ap not (sym (T .form) ∙ f)))) (λ e. absurd (omega (arith, e)))
+      (refl, (refl, (refl, (refl, tt))))
 
   module _ (f : r .form ≡ true) where
     -- up to 64 lines the arrays hold what the text says
@@ -82,7 +83,8 @@ module _ (t : List ℕ) (n : ℕ) (nb cs : List ℕ) (used : ℕ) (r : ReadRecor
         others-fit =
             sym o ∙ neither (recordLengths (heldBy r .held)) others (not-held 3 _ _ (not-held 1 _ _ lines .1) .0) .1
 
-        in-array : (array : List ℕ) (g : ℕ → ℕ) → take (r .count) array ≡ tabulate (r .count) g → r .count ≤ length array
+        in-array : (array : List ℕ) (g : ℕ → ℕ) → take (r .count) array ≡ tabulate (r .count) g → r .count ≤ length
+            array
         in-array array g h = omega (arith, ap length h, tabulate-length (r .count) g, length-take (r .count) array)
 
         pub read-room : ((0 < 8) × (r .count ≤ length nb) × (r .count ≤ length cs))

@@ -32,7 +32,8 @@ module _ (u : UsedRecord) (text : List ℕ) (size : ℕ) (others : Bool) (o : ot
   write-refused h = refused _ at-lines h (refl, (refl, tt))
 
   module _ (z : k ≡ 0) where
-    lines : (firstFitting (recordLines (u .held) others false) ≡ 0) × ((usedStray u || leb (2 ^ (u .held .n)) 0) ≡ false)
+    lines : (firstFitting (recordLines (u .held) others false) ≡ 0) ×
+        ((usedStray u || leb (2 ^ (u .held .n)) 0) ≡ false)
         × (usedWrong u ≡ false)
     lines = lines-pass u others (leb (2 ^ (u .held .n)) 0) false .0 (sym e ∙ z)
 

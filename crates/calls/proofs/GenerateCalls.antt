@@ -23,7 +23,8 @@ accepted-job n count seed text e =
     let between = counted n (h .1 .0) in
     (between .0, between .1, ltb-false 4096 count (h .0), has-length room text (h .1 .1 .0))
 
-pub generate-accepted : (n count seed : ℕ) (text : List ℕ) {size k : ℕ} → k ≡ firstFitting (generateLines n count seed text)
+pub generate-accepted : (n count seed : ℕ) (text : List ℕ) {size k : ℕ} → k ≡ firstFitting
+    (generateLines n count seed text)
     → k ≡ 0 → (text′ : List ℕ) (r : ℕ) → print.Printed (generatedText n count seed) 0 text text′ r
     → Call (generateCall n count seed text size text′ r) 0
 unfolding print.overwritten

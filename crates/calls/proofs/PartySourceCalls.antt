@@ -14,8 +14,10 @@ use Rattle.calls.specs.Sources.{partyObserveCall}
 
 module _ (word g : ℕ) (u : UsedRecord) (pauli q b answer determined : ℕ) (nb′ cs′ : List ℕ)
     (used′ answer′ determined′ : ℕ) where
-  pub observed-as-measured : Call (partyObserveCall word g u pauli q b answer determined nb′ cs′ used′ answer′ determined′) 0
-      → Call (partyMeasureCall word g u pauli q (answered u pauli q b) answer determined nb′ cs′ used′ answer′ determined′) 0
+  pub observed-as-measured : Call (partyObserveCall word g u pauli q b answer determined nb′ cs′ used′ answer′
+      determined′) 0
+      → Call (partyMeasureCall word g u pauli q (answered u pauli q b) answer determined nb′ cs′ used′ answer′
+      determined′) 0
   observed-as-measured C =
       record {
         number = sym (party-observed word g u pauli q b (sym (C .number)));
@@ -29,7 +31,8 @@ module _ (word g : ℕ) (u : UsedRecord) (pauli q b answer determined : ℕ) (nb
       }
 
   pub measured-as-observed : firstFitting (partyObserveLines word g u pauli q b) ≡ 0
-      → Call (partyMeasureCall word g u pauli q (answered u pauli q b) answer determined nb′ cs′ used′ answer′ determined′) 0
+      → Call (partyMeasureCall word g u pauli q (answered u pauli q b) answer determined nb′ cs′ used′ answer′
+      determined′) 0
       → Call (partyObserveCall word g u pauli q b answer determined nb′ cs′ used′ answer′ determined′) 0
   measured-as-observed z C =
       record {

@@ -17,7 +17,8 @@ use Rattle.calls.specs.PlotAnswers.{plotAnswer, plotLines}
 pub many-refused : (l : GeneratorList) → 10 < l .n → plotAnswer l ≡ refusedText 2
 unfolding plotAnswer
 many-refused l h =
-    ap (λ k. cond (eqb k 0) (tableText (2 ^ (l .n)) (plotAt (l .n) (rows l))) (refusedText k)) (fits 2 (checkLines l) (lt-ltb 10 (l .n) h))
+    ap (λ k. cond (eqb k 0) (tableText (2 ^ (l .n)) (plotAt (l .n) (rows l))) (refusedText k))
+    (fits 2 (checkLines l) (lt-ltb 10 (l .n) h))
 
 -- the program's own line does not hold
 pub same-number : (l : GeneratorList) → l .n ≤ 10 → firstFitting (plotLines l) ≡ firstFitting (checkLines l)

@@ -79,7 +79,8 @@ module _ (u : UsedRecord) (j k : ℕ) where
         go : Dec (firstFitting (held u false) ≡ 0) → (t : Bool) → pair ≡ t
             → r ≡ firstFitting (usedLinesOf u (pivotOf j k))
         go (no d) t f = e ∙ sym (stays (held u false) _ refl d) ∙ stays (held u false) _ refl d
-        go (yes z) false f = absurd (h (e ∙ sym (decides (held u false) refl refl z (later (plain f) (later refl none)))))
+        go (yes z) false f = absurd (h (e ∙ sym (decides (held u false) refl refl z
+            (later (plain f) (later refl none)))))
         go (yes z) true f = e ∙ sym (decides (held u false) refl refl z (here (plain f)))
             ∙ decides (held u false) refl refl z
             (here (plain (more (leb (u .held .n) j) (leb (u .held .n) k) (eqb j k) _ f)))
@@ -105,7 +106,8 @@ module _ (u : UsedRecord) (j k : ℕ) where
 
         pub edge-accepts : not edge ≡ false → 0 ≡ firstFitting (usedLinesOf u (pivotOf j k))
         edge-accepts t =
-            let P = with-used-passes u (pairLines (u .held) j k) (in-place-counted (u .held) false pair) false .0 (sym e ∙ z) in
+            let P = with-used-passes u (pairLines (u .held) j k) (in-place-counted (u .held) false pair) false .0
+            (sym e ∙ z) in
             let there : (heldRecord (u .held)) .graph j k ≡ true = sym f ∙ not-false edge t in
             sym (used-passes u (pivotOf j k) .1 (record {
               as-before = edge-passes (u .held) j k (P .0) there;

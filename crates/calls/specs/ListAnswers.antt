@@ -28,7 +28,8 @@ listAnswer l =
     (codeNumbers (l .n) (reduced (l .n) (rows l))) 0)
     (refusedText (firstFitting (checkLines l)))
 
--- these bytes answer the text t, where `answer` says what is printed for a list. 1: "The program's text does not have its
+-- these bytes answer the text t, where `answer` says what is printed for a list. 1: "The program's text does not have
+-- its
 -- form"
 pub record AnswersList (answer : GeneratorList → List ℕ) (t bytes : List ℕ) : Type 0 where
   pub malformed : (HasForm t → ⊥) → bytes ≡ refusedText 1

@@ -1,4 +1,5 @@
--- What the call that measures a Pauli row promises, for all arguments. A name with a prime is what the buffer, or the lent
+-- What the call that measures a Pauli row promises, for all arguments. A name with a prime is what the buffer, or the
+-- lent
 -- number, holds at exit.
 use mathlib.Core.List.{List, [], _∷_}
 use Prim.Native.Nat.{ℕ}

@@ -1,4 +1,5 @@
--- What the calls on texts of records promise, for all arguments. A name with a prime is what the buffer, or the lent number,
+-- What the calls on texts of records promise, for all arguments. A name with a prime is what the buffer, or the lent
+-- number,
 -- holds at exit.
 use mathlib.Core.Bool.{false, not, _||_}
 use mathlib.Core.List.{List, [], _∷_}
@@ -38,7 +39,8 @@ recordInText t =
       used = wordOf (qubitCount t) (λ q. (lineRead t q) .used);
     }
 
--- "judged over the whole text first (1)", "the names alone and more than 64 lines are 2; then 4, 5, 6, 7"; "`neighbours` and
+-- "judged over the whole text first (1)", "the names alone and more than 64 lines are 2; then 4, 5, 6, 7";
+-- "`neighbours` and
 -- `codes` have 64 places"
 abbrev pub readRecordLines : List ℕ → List ℕ → List ℕ → List Refusal
 readRecordLines t nb cs =

@@ -1,4 +1,5 @@
--- What the call over many steps promises, for all arguments. A name with a prime is what the buffer, or the lent number,
+-- What the call over many steps promises, for all arguments. A name with a prime is what the buffer, or the lent
+-- number,
 -- holds at exit.
 use mathlib.Core.Bool.{Bool, false, _||_}
 use mathlib.Core.List.{List, [], map, _∷_}
@@ -38,12 +39,14 @@ otherLengths s =
     oneOtherThan (length (s .ops)) (s .a) (s .b) (s .value)
     || oneOtherThan (length (s .ops)) (s .refusals) (s .outcomes) (s .determined)
 
--- 15: "at most 4,096 (else 15, before 2)"; then the lines of the record. 4: also where the slices' lengths differ; 6: also
+-- 15: "at most 4,096 (else 15, before 2)"; then the lines of the record. 4: also where the slices' lengths differ; 6:
+-- also
 -- "an op above 6". Anything else that is wrong with a step refuses that step alone
 abbrev pub runLines : UsedRecord → LentSteps → List Refusal
 runLines u s = line 15 (ltb 4096 (length (s .ops))) ∷ usedLines u (otherLengths s) false (reaching 7 (s .ops))
 
--- refusal, outcome and determined of each step, in a slice each. "Fields without meaning" are 0, so outcome and determined
+-- refusal, outcome and determined of each step, in a slice each. "Fields without meaning" are 0, so outcome and
+-- determined
 -- of a refused step are
 abbrev pub answersLent : LentSteps → List Answer → List ℕ → List ℕ → List ℕ → List Lent
 answersLent s answers refusals′ outcomes′ determined′ =
@@ -51,7 +54,8 @@ answersLent s answers refusals′ outcomes′ determined′ =
     ∷ buffer (s .outcomes) (map (λ r. r .outcome) answers) outcomes′
     ∷ buffer (s .determined) (map (λ r. r .determined) answers) determined′ ∷ []
 
--- ---- sukhlent_run: "each step's number stands in refusals, and a refused step changes nothing"; the record is what the
+-- ---- sukhlent_run: "each step's number stands in refusals, and a refused step changes nothing"; the record is what
+-- the
 -- steps leave, one after the other
 abbrev pub runCall : (u : UsedRecord) (s : LentSteps) (neighbours′ codes′ : List ℕ) (used′ : ℕ)
     (refusals′ outcomes′ determined′ : List ℕ) → Contract

@@ -98,7 +98,8 @@ observe-leaves : (u : UsedRecord) (pauli q b answer determined r : ℕ) (nb′ c
     Call (observeCall u pauli q b answer determined nb′ cs′ used′ answer′ determined′) r →
     ObserveLeaves u pauli q b (leftUsed u nb′ cs′ used′)
 observe-leaves u pauli q b answer determined r nb′ cs′ used′ answer′ determined′ C value p e =
-    called-leaves u (stepWith Observe q 0 value) (observationOf pauli q b) (ap₂ (λ p b. observationOf p q b) (sym p) (sym e))
+    called-leaves u (stepWith Observe q 0 value) (observationOf pauli q b)
+    (ap₂ (λ p b. observationOf p q b) (sym p) (sym e))
     refl r (C .number) (leftUsed u nb′ cs′ used′)
     (λ z. is-measured u pauli q (answered u pauli q b) answer determined 0 nb′ cs′ used′ answer′ determined′
     (observe-as-measured u pauli q b (at-zero C z)))
@@ -150,7 +151,8 @@ module _ (name : ℕ) (st : Store) (n : ℕ) (nb cs : List ℕ) (used n′ : ℕ
     (C : Call (returnCall name st n nb cs used n′ nb′ cs′ used′) r) where
   -- buffers of 64 places refuse nothing
   number : r ≡ firstFitting (namedLines 8 name st false)
-  number = C .number ∙ ap₂ (λ k l. firstFitting (namedLines 8 name st (not (eqb k 64) || not (eqb l 64)))) long codes-long
+  number = C .number ∙ ap₂ (λ k l. firstFitting (namedLines 8 name st (not (eqb k 64) || not (eqb l 64)))) long
+      codes-long
 
   same-record : {u v : UsedRecord} → found u ≡ found v → u ≡ v
   same-record e = cc
@@ -174,10 +176,13 @@ module _ (name : ℕ) (st : Store) (n : ℕ) (nb cs : List ℕ) (used n′ : ℕ
 pub contracts-are-actions : ContractsAreActions
 contracts-are-actions =
     record {
-      gate = λ u q k r nb′ cs′ C. step-leaves u (stepWith Gate q 0 k) (gateWith q k) refl refl r nb′ cs′ (u .used) C (copied u (gateWith q k) refl);
-      cz = λ u a b r nb′ cs′ C. step-leaves u (stepWith Cz a b 0) (czOn a b) refl refl r nb′ cs′ (u .used) C (copied u (czOn a b) refl);
+      gate = λ u q k r nb′ cs′ C. step-leaves u (stepWith Gate q 0 k) (gateWith q k) refl refl r nb′ cs′ (u .used) C
+          (copied u (gateWith q k) refl);
+      cz = λ u a b r nb′ cs′ C. step-leaves u (stepWith Cz a b 0) (czOn a b) refl refl r nb′ cs′ (u .used) C
+          (copied u (czOn a b) refl);
       complement = λ u a r nb′ cs′ C.
-          step-leaves u (stepWith Complement a 0 0) (complementOf a) refl refl r nb′ cs′ (u .used) C (copied u (complementOf a) refl);
+          step-leaves u (stepWith Complement a 0 0) (complementOf a) refl refl r nb′ cs′ (u .used) C
+          (copied u (complementOf a) refl);
       measure = measure-leaves;
       observe = observe-leaves;
       renew = renew-leaves;

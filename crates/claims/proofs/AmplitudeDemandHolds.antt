@@ -104,5 +104,6 @@ amplitudes-answer u y re im p re′ im′ p′ C =
     record {
       vector = amplitude-demand n R (fits .0 .held .proper);
       line = as-held (ap floatIn (C .held .0) ∙ back .re) (ap floatIn (C .held .1 .0) ∙ back .im)
-          (ap floatIn (C .held .1 .1 .0) ∙ back .p) (plotted-as (isSupported n R y) (ratio n R y) (rank n n (xWords R)));
+          (ap floatIn (C .held .1 .1 .0) ∙ back .p) (plotted-as (isSupported n R y) (ratio n R y)
+          (rank n n (xWords R)));
     }

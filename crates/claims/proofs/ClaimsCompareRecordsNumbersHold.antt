@@ -47,7 +47,8 @@ module _ (l m : LentRecord) (choice list : List ℕ) where
                   λ e. (
                     refl,
                     (
-                      or-decides (not-simple (l .n) (graphIn (l .neighbours))) (not-simple (m .n) (graphIn (m .neighbours))),
+                      or-decides (not-simple (l .n) (graphIn (l .neighbours)))
+                          (not-simple (m .n) (graphIn (m .neighbours))),
                       λ e. tt,
                     ),
                   ),

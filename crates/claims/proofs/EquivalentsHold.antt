@@ -95,7 +95,8 @@ conforms l m choice list count choice′ list′ count′ =
       complete = λ z. let all = none-of-all (pairLines l m choice list) _ (pair-numbered l m choice list) z in
           let A = accepted-pair l m choice list (all .0) in
           let back = to-64 l m choice list count 0 _ _ _
-          (record { number = sym z; held = (refl, (refl, (refl, tt))) }) A .otherwise (λ e. absurd (omega (arith, e))) .1 in (
+          (record { number = sym z; held = (refl, (refl, (refl, tt))) }) A .otherwise
+          (λ e. absurd (omega (arith, e))) .1 in (
             table-fills (l .n) _ choice (A .choice-places),
             (
               written-fills (compareList (l .n) (rows l) (rows m)) list

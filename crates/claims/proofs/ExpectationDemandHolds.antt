@@ -104,7 +104,8 @@ expectations-answer u z x value value′ C = subst (ExpectationAnswer l z x) (sy
 
 -- ---- single letters
 -- the words of a letter at one qubit
-pub letter-words : (l : Letter) (q : ℕ) (s : Bool) → signedRow s (letterWord (zBit l) q) (letterWord (xBit l) q) ≡ single l q s
+pub letter-words : (l : Letter) (q : ℕ) (s : Bool) → signedRow s (letterWord (zBit l) q) (letterWord (xBit l) q) ≡
+    single l q s
 letter-words l q s = Pauli-path refl (λ t. one (zBit l) t) (λ t. one (xBit l) t)
   where
     one : (b : Bool) (t : ℕ) → bit (letterWord b q) t ≡ (eqb t q && b)

@@ -108,7 +108,8 @@ module _ (u : UsedRecord) (G : Group) (S : StandsFor u G) where
   request-passes (observationOf pauli q b) z = (z, λ h. h)
   request-passes (renewalOf q k) z = (z, λ h. h)
 
-  request-impossible : (r : Request) → (firstFitting (requestLines u r) ≡ 0 → ⊥) → firstFitting (requestArguments u r) ≡ 0
+  request-impossible : (r : Request) → (firstFitting (requestLines u r) ≡ 0 → ⊥) → firstFitting (requestArguments u r) ≡
+      0
       → RequestContradicted G r
   request-impossible (carryOut o) h z = impossible o h z
   request-impossible (observationOf pauli q b) h z = absurd (h z)
@@ -117,7 +118,8 @@ module _ (u : UsedRecord) (G : Group) (S : StandsFor u G) where
   -- accepted, the record left has the group that the definitions give
   request-stands : (r : Request) → firstFitting (requestLines u r) ≡ 0
       → HasGroup ((requestLeaves u r) .held) (AfterRequest (u .held .n) G r)
-  request-stands (carryOut o) z = subst (λ r. HasGroup r (AfterOperation (u .held .n) G o)) (sym (used-left u o z .held))
+  request-stands (carryOut o) z = subst (λ r. HasGroup r (AfterOperation (u .held .n) G o))
+      (sym (used-left u o z .held))
       (operation-stands (u .held) G has-group o (used-step u o z))
   request-stands (observationOf pauli q b) z = observation-stands u G has-group pauli q b z
   request-stands (renewalOf q k) z = renewal-stands u G has-group q k z
@@ -153,7 +155,8 @@ module _ (u : UsedRecord) (G : Group) (S : StandsFor u G) where
           O : HasGroup ((requestLeaves u (asked s)) .held) (AfterRequest (u .held .n) G (asked s))
           O = request-stands (asked s) no-line
 
-          back : {p : Pauli} → GroupAfterStep u G s p → InGroup (left .held .n) (left .held .n) (heldRows (left .held)) p
+          back : {p : Pauli} → GroupAfterStep u G s p → InGroup (left .held .n) (left .held .n) (heldRows (left .held))
+              p
           back (not-run r g) = absurd (accepted-not-refused r)
           back {p} (changed h g) = O .elements p .1 g
 

@@ -8,7 +8,15 @@ use Rattle.clifford.specs.Vectors.{act}
 use Rattle.pauli.proofs.PauliLaws.{Pauli-path}
 use Rattle.pauli.specs.Pauli.{Pauli}
 use Rattle.record.proofs.AcceptedRecords.{accepted-record}
-use Rattle.record.proofs.PlainRows.{hadamards-last, hadamards-twice, plain-determined, plain-phase, plain-x, plain-z, plainRow}
+use Rattle.record.proofs.PlainRows.{
+  hadamards-last,
+  hadamards-twice,
+  plain-determined,
+  plain-phase,
+  plain-x,
+  plain-z,
+  plainRow,
+}
 use Rattle.record.proofs.ReducedRecords.{reduced-is}
 use Rattle.record.proofs.Unique.{record-path}
 use Rattle.record.proofs.WrittenRecords.{reduced-back, reduced-passes, writtenRecord}

@@ -61,7 +61,8 @@ module _ (s : Session) (g : Groups) (S : SessionStands s g) (name : ℕ) where
       → lookup 8 (saved 8 (s .current) name (s .store)) m ≡ found v → Dec (m ≡ name)
       → StandsFor v (eitherGroup (eqb m name) (g .current) (g .named m))
   save-named z m v e (yes p) = chosen-same (eqb m name) (g .current) (g .named m) v (eq-eqb m name p)
-      (subst (λ w. StandsFor w (g .current)) (same-record (sym (ap (λ b. cond b (found (s .current)) (lookup 8 (s .store) m))
+      (subst (λ w. StandsFor w (g .current)) (same-record (sym
+      (ap (λ b. cond b (found (s .current)) (lookup 8 (s .store) m))
       (eq-eqb m name p)) ∙ sym (under z m) ∙ e)) (S .current))
     where
       under : (z : firstFitting (saveLines 8 (s .current) name (s .store)) ≡ 0) (m : ℕ)
@@ -84,7 +85,8 @@ module _ (s : Session) (g : Groups) (S : SessionStands s g) (name : ℕ) where
         named = λ m v e. save-named (z refl) m v e (ℕ-discrete m name);
         still = store-passes 8 (saved 8 (s .current) name (s .store))
             (saved-passing 8 (s .store) (save-passing (s .current) name (s .store) (z refl)) (s .current)
-            (record-passes (s .current) name (s .store) (z refl)) name (place-there (s .current) name (s .store) (z refl)));
+            (record-passes (s .current) name (s .store) (z refl)) name
+            (place-there (s .current) name (s .store) (z refl)));
       }
 
   -- ---- a return
@@ -95,7 +97,8 @@ module _ (s : Session) (g : Groups) (S : SessionStands s g) (name : ℕ) where
   return-stands true z =
       record {
         current = S .named name (heldUnder name (s .store))
-            (held-lookup 8 (s .store) (named-passing name (s .store) false (z refl)) name (name-held name (s .store) false (z refl)));
+            (held-lookup 8 (s .store) (named-passing name (s .store) false (z refl)) name
+            (name-held name (s .store) false (z refl)));
         named = S .named;
         still = S .still;
       }
@@ -106,11 +109,13 @@ module _ (s : Session) (g : Groups) (S : SessionStands s g) (name : ℕ) where
   forget-named z m v e d = go d
     where
       under : lookup 8 (forgotten 8 name (s .store)) m ≡ cond (eqb m name) nothing (lookup 8 (s .store) m)
-      under = forgotten-lookup 8 (s .store) (named-passing name (s .store) false z) name (name-held name (s .store) false z) m
+      under = forgotten-lookup 8 (s .store) (named-passing name (s .store) false z) name
+          (name-held name (s .store) false z) m
 
       go : Dec (m ≡ name) → StandsFor v (g .named m)
       go (yes p) = not-found (sym (ap (λ b. cond b nothing (lookup 8 (s .store) m)) (eq-eqb m name p)) ∙ sym under ∙ e)
-      go (no h) = S .named m v (sym (ap (λ b. cond b nothing (lookup 8 (s .store) m)) (ne-eqb m name h)) ∙ sym under ∙ e)
+      go (no h) = S .named m v (sym (ap (λ b. cond b nothing (lookup 8 (s .store) m)) (ne-eqb m name h)) ∙ sym under ∙
+          e)
 
   forget-stands : (b : Bool) → (b ≡ true → firstFitting (namedLines 8 name (s .store) false) ≡ 0) → SessionStands
       (record { current = s .current; store = cond b (forgotten 8 name (s .store)) (s .store) }) g

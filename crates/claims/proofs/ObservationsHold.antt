@@ -1,4 +1,5 @@
--- A measurement with a bit by lot: what is claimed of it holds, by its contract and the measurement with the outcome that
+-- A measurement with a bit by lot: what is claimed of it holds, by its contract and the measurement with the outcome
+-- that
 -- it answers.
 use mathlib.Core.Bool.{Bool, cond, false, true}
 use mathlib.Core.List.{List, []}
@@ -99,7 +100,8 @@ module _ (u : UsedRecord) (pauli q b : ℕ) where
     -- ---- an accepted one
     module _ (C : Call (observeCall u pauli q b answer determined nb′ cs′ used′ answer′ determined′) 0) where
       as-measured : Call (usedMeasureCall u pauli q answer′ answer determined nb′ cs′ used′ answer′ determined′) 0
-      as-measured = subst (λ v. Call (usedMeasureCall u pauli q v answer determined nb′ cs′ used′ answer′ determined′) 0)
+      as-measured = subst (λ v. Call (usedMeasureCall u pauli q v answer determined nb′ cs′ used′ answer′ determined′)
+          0)
           (sym (C .held .1 .0)) (observe-as-measured u pauli q b C)
 
       is-bit : determined′ ≡ 0 → answer′ ≡ b
@@ -111,7 +113,8 @@ module _ (u : UsedRecord) (pauli q b : ℕ) where
       stands : ObservationStands (u .held) pauli q b (left (u .held) nb′ cs′) answer′ determined′
       stands =
           let M = measurements-follow (u .held) pauli q answer′ answer determined nb′ cs′ answer′ determined′
-          (accepted-measured-without u pauli q answer′ answer determined nb′ cs′ used′ answer′ determined′ as-measured) in
+          (accepted-measured-without u pauli q answer′ answer determined nb′ cs′ used′ answer′ determined′ as-measured)
+          in
           record {
             still = M .still;
             answers = M .answers;
@@ -122,7 +125,8 @@ module _ (u : UsedRecord) (pauli q b : ℕ) where
             kept = M .kept;
             bit = is-bit;
             joined = λ e p. subst (λ v. InGroup (u .held .n) (u .held .n) (heldRows (left (u .held) nb′ cs′)) p
-                ↔ Measured (u .held .n) (heldRows (u .held)) (signedPauli pauli q (isOdd v)) p) (is-bit e) (M .joined e p);
+                ↔ Measured (u .held .n) (heldRows (u .held)) (signedPauli pauli q (isOdd v)) p) (is-bit e)
+                (M .joined e p);
           }
 
       marks : UsedMarked u pauli q b nb′ cs′ used′ answer′
@@ -139,7 +143,8 @@ module _ (u : UsedRecord) (pauli q b : ℕ) where
 
     module _ (r : ℕ) (C : Call (observeCall u pauli q b answer determined nb′ cs′ used′ answer′ determined′) r) where
       -- where the measurement is accepted
-      same : MeasureFits u pauli q b → Call (usedMeasureCall u pauli q b answer determined nb′ cs′ used′ answer′ determined′) r
+      same : MeasureFits u pauli q b → Call (usedMeasureCall u pauli q b answer determined nb′ cs′ used′ answer′
+          determined′) r
       same F =
           record {
             number = C .number ∙ observe-lines .1 (record {
@@ -163,7 +168,8 @@ module _ (u : UsedRecord) (pauli q b : ℕ) where
         (λ e. let p = skips (earlierLines u (measurementOf pauli q b)) 16 refl e
             (fits-at (usedArgumentsOf u (measurementOf pauli q b)) (C .number)) in
             (none-fits-of (earlierLines u (measurementOf pauli q b)) (p .0), is-first (p .1) refl e)),
-        (λ h. C .number ∙ sym (decides (earlierLines u (measurementOf pauli q b)) refl (sym (h .0)) refl (here (h .1)))),
+        (λ h. C .number ∙ sym (decides (earlierLines u (measurementOf pauli q b)) refl (sym (h .0)) refl
+            (here (h .1)))),
       )
 
       pub observe-says : ObserveSays u pauli q b answer determined nb′ cs′ used′ answer′ determined′ r

@@ -46,13 +46,15 @@ module _ (n : ℕ) (neighbours list : List ℕ) (count : ℕ) (list′ : List �
   pub listed : Listed n neighbours list list′ count′
   listed = record {
     rises = rising;
-    exactly = λ h. subst (λ l. On l h ↔ ((h < graphCount n) × Reached n (graphIn neighbours) (graphAt n h))) (sym the-list)
+    exactly = λ h. subst (λ l. On l h ↔ ((h < graphCount n) × Reached n (graphIn neighbours) (graphAt n h)))
+        (sym the-list)
         (orbit-exactly n (accepted .few) (graphIn neighbours) simple h);
     once = λ i j k l e. rises-once (take count′ list′) rising i j (at k) (at l)
         (getD-take count′ list′ i 0 k ∙ e ∙ sym (getD-take count′ list′ j 0 l));
     fits = subst (λ k. k ≤ 32768) (sym (C .held .1 .0)) (orbit-length n _ (accepted .few));
     past = ap₂ drop (C .held .1 .0) (C .held .0)
-        ∙ drop-at (orbitOf n neighbours) (drop (length (orbitOf n neighbours)) list) (length (orbitOf n neighbours)) refl
+        ∙ drop-at (orbitOf n neighbours) (drop (length (orbitOf n neighbours)) list) (length (orbitOf n neighbours))
+        refl
         ∙ ap (λ k. drop k list) (sym (C .held .1 .0));
   }
     where
@@ -114,7 +116,8 @@ module _ (l m : GeneratorList) (first second list : List ℕ) (count : ℕ) (lis
   -- complementations give a choice
   equivalent : Reached (l .n) (graphIn first) (graphIn second) → r ≡ 0
   equivalent R =
-      let c = reached-carries (l .n) (graphIn first) (graphIn second) two (reached-back one R) (rows l) (rows m) E described
+      let c = reached-carries (l .n) (graphIn first) (graphIn second) two (reached-back one R) (rows l) (rows m) E
+      described
       in
       decided .otherwise (λ e. decided .exactly .0 e (c .0) (c .1)) .0
 

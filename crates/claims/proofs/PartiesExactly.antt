@@ -44,7 +44,8 @@ module _ (word g : ℕ) (u : UsedRecord) where
       record {
         count = n64;
         party = let l = ltb-false 1 g low in omega (arith, l);
-        apart = λ j k hj hk t. crosses-not word u e j k (subst (λ n. j < n) (sym n64) hj) (subst (λ n. k < n) (sym n64) hk) t;
+        apart = λ j k hj hk t. crosses-not word u e j k (subst (λ n. j < n) (sym n64) hj)
+            (subst (λ n. k < n) (sym n64) hk) t;
       }
 
   pub of-parties : TwoParties word g u → (ltb 1 g ≡ false) × (crosses word u ≡ false)
@@ -84,7 +85,8 @@ module _ (word g : ℕ) (st : Store) where
   tests = recordTests (ofHeld 4 own)
 
   -- its lines, one test after the other
-  own-tests : (firstFitting (ownLines (inParty word g) g st) ≡ 0) ↔ (((firstFitting tests ≡ 0) × (otherCount own ≡ false))
+  own-tests : (firstFitting (ownLines (inParty word g) g st) ≡ 0) ↔
+      (((firstFitting tests ≡ 0) × (otherCount own ≡ false))
       × (storeLengths 8 st ≡ false) × ((namedTwice 4 (own .heads) || heldOut (inParty word g) own) ≡ false))
   own-tests = (
     (λ e. let h7 = seven .0 e in let h4 = four .0 (h7 .0) in (two .0 (h4 .0), h4 .1, h7 .1)),
@@ -97,7 +99,8 @@ module _ (word g : ℕ) (st : Store) where
       N4 : Numbered (withTest 4 (storeLengths 8 st) (withTest 2 (otherCount own) tests))
       N4 = test-numbered 4 (storeLengths 8 st) (withTest 2 (otherCount own) tests) N2
 
-      two : (firstFitting (withTest 2 (otherCount own) tests) ≡ 0) ↔ ((firstFitting tests ≡ 0) × (otherCount own ≡ false))
+      two : (firstFitting (withTest 2 (otherCount own) tests) ≡ 0) ↔
+          ((firstFitting tests ≡ 0) × (otherCount own ≡ false))
       two = test-passes 2 (otherCount own) tests (five-numbered (ofHeld 4 own)) refl
 
       four : (firstFitting (withTest 4 (storeLengths 8 st) (withTest 2 (otherCount own) tests)) ≡ 0)
@@ -254,5 +257,6 @@ module _ (word g : ℕ) (u : UsedRecord) (st : Store) where
   with-last k b = (
     (λ e. let p = more-exactly (sharedLines word g u st) _ shared-numbered .0 e in
         (shared-exactly .0 (p .0), last-exactly k b .0 (p .1))),
-    (λ h. more-exactly (sharedLines word g u st) _ shared-numbered .1 (shared-exactly .1 (h .0), last-exactly k b .1 (h .1))),
+    (λ h. more-exactly (sharedLines word g u st) _ shared-numbered .1
+        (shared-exactly .1 (h .0), last-exactly k b .1 (h .1))),
   )

@@ -81,7 +81,8 @@ module _ (u : UsedRecord) (a : ℕ) (F : ComplementFits u a) where
   -- and as it is read again
   held-again : heldRecord ((complemented u a) .held) ≡ complementRecord (heldRecord (u .held)) a
   held-again = ap heldRecord (L .held) ∙ record-path _ _
-      (complements-keep (u .held) a _ _ (call-of (u .held) (complementOf a) (used-step u (complementOf a) accepted)) .holds)
+      (complements-keep (u .held) a _ _ (call-of (u .held) (complementOf a)
+      (used-step u (complementOf a) accepted)) .holds)
 
   -- a qubit that is not used may be complemented next
   again : (b : ℕ) → Free u b → ComplementFits (complemented u a) b
@@ -115,7 +116,8 @@ module _ (u : UsedRecord) (a b value : ℕ) (e : numberOf u (pivotStep a b value
   -- neither end is used
   ends : (bit (u .used) a ≡ false) × (bit (u .used) b ≡ false)
   ends = neither (bit (u .used) a) (bit (u .used) b)
-      (edge-unused u (pivot-fits .0 .held) (no-stray u (pivot-fits .0)) (none-wrong u (pivot-fits .0)) a b (pivot-fits .3))
+      (edge-unused u (pivot-fits .0 .held) (no-stray u (pivot-fits .0)) (none-wrong u (pivot-fits .0)) a b
+      (pivot-fits .3))
 
   free-a : Free u a
   free-a = (pivot-fits .1, ends .0)
@@ -222,8 +224,10 @@ module _ (u : UsedRecord) (a b value : ℕ) (e : numberOf u (pivotStep a b value
   leaves-so : PivotLeaves u a b (afterStep u (pivotStep a b value))
   leaves-so =
       record {
-        rewritten = subst (λ l. RewrittenAs (u .held) l (pivotRecord (heldRecord (u .held)) a b)) (sym pivot-left) pivot-kept;
-        ranks = λ side. ap (rankAcross side) pivot-left ∙ rewritten-ranks (u .held) _ _ _ (pivot-fits .0 .held) pivot-kept side;
+        rewritten = subst (λ l. RewrittenAs (u .held) l (pivotRecord (heldRecord (u .held)) a b)) (sym pivot-left)
+            pivot-kept;
+        ranks = λ side. ap (rankAcross side) pivot-left ∙ rewritten-ranks (u .held) _ _ _ (pivot-fits .0 .held)
+            pivot-kept side;
         stay = subst (λ v. UsedStay u (v .held)) (sym (accepted-leaves u (pivotStep a b value) e)) (P .stay);
         copied = ap (λ v. v .used) (accepted-leaves u (pivotStep a b value) e) ∙ P .used;
       }
@@ -233,8 +237,13 @@ pivots-run u a b value e = (as-complements u a b value e, leaves-so u a b value 
 
 pub pivots-accepted : PivotsAccepted
 pivots-accepted u a b value = (
-  (λ e. (eqb-true value 0 (not-false (eqb value 0) (accepted-unset u (pivotStep a b value) e)), pivot-fits u a b value e)),
-  (λ h. number-of-operation u (pivotStep a b value) (pivotOf a b) refl (ap not (eq-eqb value 0 (h .0))) ∙ used-pivot u a b .1 (h .1)),
+  (λ e. (
+    eqb-true value 0 (not-false (eqb value 0) (accepted-unset u (pivotStep a b value) e)),
+    pivot-fits u a b value
+        e,
+  )),
+  (λ h. number-of-operation u (pivotStep a b value) (pivotOf a b) refl (ap not (eq-eqb value 0 (h .0))) ∙ used-pivot u a
+      b .1 (h .1)),
 )
 
 pub pivots-refused : PivotsRefused

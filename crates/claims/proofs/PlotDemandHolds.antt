@@ -1,4 +1,4 @@
--- What the program `amplitudes` prints for a text, from what `reply` of jobs_replies ensures of it.
+-- What the program `amplitudes` prints for a text, from what `plot_reply` of jobs_replies ensures of it.
 use mathlib.Core.Bool.{cond, false}
 use mathlib.Core.List.{List}
 use mathlib.Core.Path.{_∙_, _≡_, ap}

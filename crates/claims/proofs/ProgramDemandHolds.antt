@@ -1,4 +1,5 @@
--- What the programs print for a text, from what `reply` of text_replies and of jobs_replies ensures of it.
+-- What the programs print for a text, from what `list_reply` of text_replies and `job_reply` of jobs_replies ensure of
+-- it.
 use mathlib.Core.Bool.{cond, false, or-true, true, _||_}
 use mathlib.Core.List.{List, [], _∷_}
 use mathlib.Core.Logic.{_⊎_, ⊎-elim}

@@ -1,4 +1,5 @@
--- Graphs that complementations reach from each other have plain states that a choice of codes carries onto each other, and
+-- Graphs that complementations reach from each other have plain states that a choice of codes carries onto each other,
+-- and
 -- the graphs to which lists of complementations lead are reached.
 use mathlib.Core.Bool.{_&&_, not, true≢false}
 use mathlib.Core.List.{List, [], _∷_}
@@ -71,7 +72,8 @@ module _ (n : ℕ) (θ : Graph) (S : Simple n θ) where
   pub plain-reduced : (R : ℕ → Pauli) → Proper n R → SameGroup n n R (rowsOf n (plain θ)) → reducedGraph n R ≡ θ
   plain-reduced R P E =
       ap (λ r. r .graph)
-      (reduced-of-group n R (rowsOf n (plain θ)) P (record-proper n (plain θ) S) E ∙ form-reduced n (plain θ) S plain-form)
+      (reduced-of-group n R (rowsOf n (plain θ)) P (record-proper n (plain θ) S) E ∙ form-reduced n (plain θ) S
+      plain-form)
 
   -- codes that carry the graph reached onto the graph
   carried : {φ : Graph} → Reached n θ φ

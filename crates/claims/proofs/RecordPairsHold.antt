@@ -61,7 +61,8 @@ same-on-expansions l m choice list count choice′ list′ count′ r e =
     Call (compareRecordsCall l (withCount m k) choice list count choice′ list′ count′) r
     ↔ Call (compareCall (expansion l) (expansion (withCount m k)) choice list count choice′ list′ count′) r)
     (A .same-count)
-    (λ B. same-at (l .n) (l .neighbours) (l .codes) (m .neighbours) (m .codes) choice list B count choice′ list′ count′ r)
+    (λ B. same-at (l .n) (l .neighbours) (l .codes) (m .neighbours) (m .codes) choice list B count choice′ list′ count′
+    r)
     A
 
 pub pairs-pass : (l m : LentRecord) (choice list : List ℕ) → firstFitting (recordsLines l m choice list) ≡ 0 →

@@ -83,15 +83,18 @@ module _ (u : UsedRecord) (R : IsRecord u) where
 -- ---- a text read and written
 pub text-back : (t : List ℕ) → recordForm t ≡ true → qubitCount t ≤ 64 → printOf (recordInText t) ≡ t
 text-back t form few =
-    print-lines n ((recordInText t) .held .neighbours) ((recordInText t) .held .codes) ((recordInText t) .used) (omega (arith, few))
-    ∙ same-text n (lineHeld ((recordInText t) .held .neighbours) ((recordInText t) .held .codes) ((recordInText t) .used)) (lineRead t) each
+    print-lines n ((recordInText t) .held .neighbours) ((recordInText t) .held .codes) ((recordInText t) .used)
+    (omega (arith, few))
+    ∙ same-text n (lineHeld ((recordInText t) .held .neighbours) ((recordInText t) .held .codes)
+    ((recordInText t) .used)) (lineRead t) each
     ∙ sym (form-text t form)
   where
     n : ℕ
     n = qubitCount t
 
     each : (q : ℕ) → q < n →
-        lineHeld ((recordInText t) .held .neighbours) ((recordInText t) .held .codes) ((recordInText t) .used) q ≡ lineRead t q
+        lineHeld ((recordInText t) .held .neighbours) ((recordInText t) .held .codes) ((recordInText t) .used) q ≡
+        lineRead t q
     each q l =
         let word = tabulate-at n (λ q. (lineRead t q) .word) q l in
         let code = tabulate-at n (λ q. (lineRead t q) .code) q l in
@@ -110,7 +113,8 @@ print-size u few =
     )
 
 -- ---- the lines
-pub write-lines : (u : UsedRecord) (text : List ℕ) → (firstFitting (writeRecordLines u text) ≡ 0) ↔ WriteRecordFits u text
+pub write-lines : (u : UsedRecord) (text : List ℕ) → (firstFitting (writeRecordLines u text) ≡ 0) ↔ WriteRecordFits u
+    text
 write-lines u text = (
   (λ e. let h = used-exactly u _ false false .0 e in (h .0, has-length 1627 text (h .1))),
   (λ F. used-exactly u _ false false .1 (F .0, length-passes 1627 text (F .1), refl, refl)),

@@ -58,7 +58,8 @@ use Rattle.claims.specs.RecordTexts.{
 -- ---- numbers in words
 write-words : (u : UsedRecord) (text : List ℕ) → Matches (writeRecordLines u text) (writeRecordSentences u text)
 write-words u text = used-in-words u _ false false _ _ _ (or-decides (misfits (u .held)) (other-length 1627 text))
-    (or-decides (stray-neighbour (u .held)) (or-none (stray (u .held .n) (u .used)))) (or-none (code-above-23 (u .held)))
+    (or-decides (stray-neighbour (u .held)) (or-none (stray (u .held .n) (u .used))))
+    (or-none (code-above-23 (u .held)))
 
 read-words : (t nb cs : List ℕ) → Matches (readRecordLines t nb cs) (readRecordSentences t nb cs)
 read-words t nb cs = (
@@ -68,7 +69,8 @@ read-words t nb cs = (
     λ e. let u = recordInText t in
         used-in-words u _ false false _ _ _
         (or-decides (misfits (u .held)) (or-decides (other-length 64 nb) (other-length 64 cs)))
-        (or-decides (stray-neighbour (u .held)) (or-none (stray (u .held .n) (u .used)))) (or-none (code-above-23 (u .held))),
+        (or-decides (stray-neighbour (u .held)) (or-none (stray (u .held .n) (u .used))))
+        (or-none (code-above-23 (u .held))),
   ),
 )
 
@@ -91,7 +93,8 @@ read-conforms t n nb cs used n′ nb′ cs′ used′ =
           let A = P .is-record .held in (
             tt,
             (
-              written-fills ((recordInText t) .held .neighbours) nb (omega (arith, A .neighbours-length, A .upto, P .neighbours)),
+              written-fills ((recordInText t) .held .neighbours) nb
+                  (omega (arith, A .neighbours-length, A .upto, P .neighbours)),
               (
                 written-fills ((recordInText t) .held .codes) cs (omega (arith, A .codes-length, A .upto, P .codes)),
                 (tt, tt),
@@ -185,7 +188,8 @@ read-record-says t n nb cs used n′ nb′ cs′ used′ r C =
       past = λ z. read-past t n nb cs used n′ nb′ cs′ used′ (at-zero C z);
       back = λ z. let D = at-zero C z in
           subst (RecordTextComesBack t) (sym (read-record t n nb cs used n′ nb′ cs′ used′ D))
-          (text-comes-back t (recordInText t) (parts t n nb cs used n′ nb′ cs′ used′ D .is-record) (read-text-is t n nb cs used n′ nb′ cs′ used′ D));
+          (text-comes-back t (recordInText t) (parts t n nb cs used n′ nb′ cs′ used′ D .is-record)
+          (read-text-is t n nb cs used n′ nb′ cs′ used′ D));
     }
 
 -- ---- of both, and of the programs
@@ -199,7 +203,8 @@ record-texts-demand =
     record {
       one-text = λ t s n nb cs used m nb₂ cs₂ used₂ n′ nb′ cs′ used′ nb″ cs″ C D e.
           read-text-is t n nb cs used n′ nb′ cs′ used′ C
-          ∙ ap printOf (sym (read-record t n nb cs used n′ nb′ cs′ used′ C) ∙ e ∙ read-record s m nb₂ cs₂ used₂ n′ nb″ cs″ used′ D)
+          ∙ ap printOf (sym (read-record t n nb cs used n′ nb′ cs′ used′ C) ∙ e ∙ read-record s m nb₂ cs₂ used₂ n′ nb″
+          cs″ used′ D)
           ∙ sym (read-text-is s m nb₂ cs₂ used₂ n′ nb″ cs″ used′ D);
       one-record = λ u v a b i j a′ b′ i′ j′ C D e.
           sym (record-back u (written-record u a i a′ i′ C))

@@ -84,7 +84,8 @@ module _ (l m : LentRecord) (choice list : List ℕ) (count : ℕ) where
       Call (equivalentRecordsCall l (withCount m k) choice list count choice′ list′ count′) r →
       Call (equivalentCall (expansion l) (expansion (withCount m k)) choice list count choice′ list′ count′) r)
       (A .same-count)
-      (λ B. expanded-at (l .n) (l .neighbours) (l .codes) (m .neighbours) (m .codes) choice list B count choice′ list′ count′ r)
+      (λ B. expanded-at (l .n) (l .neighbours) (l .codes) (m .neighbours) (m .codes) choice list B count choice′ list′
+      count′ r)
       A
 
   -- ---- demand 1

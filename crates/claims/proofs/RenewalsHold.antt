@@ -92,7 +92,8 @@ module _ (u : UsedRecord) (q k : ℕ) where
 
     pub group-renewed : (p : Pauli) → InGroup (u .held .n) (u .held .n) (heldRows ((renewed u q k) .held)) p
         ↔ Renewed (u .held .n) (InGroup (u .held .n) (u .held .n) (heldRows (u .held))) q (photon q k) p
-    group-renewed p = subst (λ s. InGroup n n (rowsOf n s) p ↔ Renewed n (InGroup n n (heldRows (u .held))) q (photon q k) p)
+    group-renewed p = subst (λ s. InGroup n n (rowsOf n s) p ↔ Renewed n (InGroup n n (heldRows (u .held))) q
+        (photon q k) p)
         (sym (holds-recoded u q k F))
         (renewed-group n (heldRecord (u .held)) (F .held .simple) q (F .below) (alone u q k F) (cliffordOf k) p)
 
@@ -111,11 +112,13 @@ module _ (u : UsedRecord) (q k : ℕ) where
 
     stays-reduced : IsReduced (u .held) → IsReduced (after .held)
     stays-reduced R =
-        let own : now ≡ reduced n (heldRows (after .held)) = sym (form-reduced n now (A .simple) (renewed-form u q k F (form R))) in
+        let own : now ≡ reduced n (heldRows (after .held)) = sym
+        (form-reduced n now (A .simple) (renewed-form u q k F (form R))) in
         record {
           neighbours = held-words _ _ unrefused ∙ ap (λ m. neighbourWords m now) (A .neighbours-length)
               ∙ ap (neighbourWords n) own;
-          codes = held-codes _ _ unrefused ∙ ap (λ m. codeNumbers m now) (A .neighbours-length) ∙ ap (codeNumbers n) own;
+          codes = held-codes _ _ unrefused ∙ ap (λ m. codeNumbers m now) (A .neighbours-length) ∙ ap (codeNumbers n)
+              own;
         }
 
     stands : RenewalStands u q k (renewed u q k)

@@ -136,7 +136,8 @@ is-measured u pauli q b answer determined r nb cs used answer′ determined′ C
 pub second-about-measured : SecondAboutMeasured
 second-about-measured u pauli₁ q₁ b₁ answer₁ determined₁ r₁ pauli₂ q₂ b₂ answer₂ determined₂ r₂ nb₁ cs₁ nb₂ cs₂ used₁
     answer₁′ determined₁′ used₂ answer₂′ determined₂′ C D =
-    is-measured (record { held = left (u .held) nb₁ cs₁; used = used₁ }) pauli₂ q₂ b₂ answer₂ determined₂ r₂ nb₂ cs₂ used₂
+    is-measured (record { held = left (u .held) nb₁ cs₁; used = used₁ }) pauli₂ q₂ b₂ answer₂ determined₂ r₂ nb₂ cs₂
+    used₂
     answer₂′ determined₂′ D
     ∙ ap (λ v. (usedStep v (measurementOf pauli₂ q₂ b₂)) .after)
     (is-measured u pauli₁ q₁ b₁ answer₁ determined₁ r₁ nb₁ cs₁ used₁ answer₁′ determined₁′ C)

@@ -92,7 +92,8 @@ run-demand =
       follows = λ u G S s nb cs used refusals outcomes determined C.
           run-stands u s nb cs used refusals outcomes determined C G S;
       jobs = λ n positive upto s nb cs used refusals outcomes determined C.
-          run-stands (started n) s nb cs used refusals outcomes determined C (StartGroup n) (started-stands n positive upto);
+          run-stands (started n) s nb cs used refusals outcomes determined C (StartGroup n)
+          (started-stands n positive upto);
     }
 
 -- its lines in words

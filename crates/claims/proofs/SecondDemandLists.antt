@@ -132,7 +132,8 @@ reduces-to-itself l nb cs nb′ cs′ s z x s′ z′ x′ nb₂ cs₂ nb₂′ 
     again : reduced (l .n) (rows (record { n = l .n; signs = s′; z = z′; x = x′ })) ≡ reduced (l .n) (rows l)
     again =
         ap (λ m. reduced (l .n) (rows m))
-        (holds-expanded (recordLeft (l .n) nb′ cs′ used′) s z x s′ z′ x′ E ∙ ap expanded (holds-reduced l nb cs used nb′ cs′ used′ C))
+        (holds-expanded (recordLeft (l .n) nb′ cs′ used′) s z x s′ z′ x′ E ∙ ap expanded
+        (holds-reduced l nb cs used nb′ cs′ used′ C))
         ∙ record-path _ _ (reduced-expands-back (l .n) (rows l) (P .proper) (P .formed .positive)
         (P .formed .upto))
 

@@ -141,7 +141,8 @@ module _ (u : UsedRecord) (I : IsRecord u) (f : (ℕ → Pauli) → ℕ → Paul
 -- ---- gates and CZ
 pub gates-by-expanding : GatesByExpanding
 gates-by-expanding u q k nb′ cs′ C =
-    by-expanding u (used-gate u q k .0 (sym (C .number)) .0) (gateChange (u .held .n) q k) (codes-of-groups (u .held .n) _)
+    by-expanding u (used-gate u q k .0 (sym (C .number)) .0) (gateChange (u .held .n) q k)
+    (codes-of-groups (u .held .n) _)
     (gateWith q k)
     (λ i. reduced (u .held .n) (λ j. gated-row (u .held .n) (heldRecord (u .held)) q (cliffordOf k) j i)) nb′ cs′
     (C .held .0) (C .held .1 .0)

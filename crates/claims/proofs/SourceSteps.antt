@@ -52,10 +52,12 @@ module _ (u : UsedRecord) (G : Group) (S : HasGroup (u .held) G) where
     before = used-step u (measurementOf pauli q found) (observed-accepted u pauli q b z)
 
     -- it answers what the measurement with that outcome does
-    same-answer : determinedNumber (measuredAnswer (u .held) pauli q found) ≡ determinedNumber (measuredAnswer (u .held) pauli q b)
+    same-answer : determinedNumber (measuredAnswer (u .held) pauli q found) ≡ determinedNumber
+        (measuredAnswer (u .held) pauli q b)
     same-answer = ap determinedNumber (observed-answer u pauli q b)
 
-    pub lot-determined : (determinedNumber (measuredAnswer (u .held) pauli q b) ≡ 1) ↔ GroupDetermines G (pauliLetter pauli) q
+    pub lot-determined : (determinedNumber (measuredAnswer (u .held) pauli q b) ≡ 1) ↔ GroupDetermines G
+        (pauliLetter pauli) q
     lot-determined =
         let A = answer-stands (u .held) G S pauli q found before in
         ((λ e. A .0 .0 (same-answer ∙ e)), (λ d. sym same-answer ∙ A .0 .1 d))

@@ -98,7 +98,8 @@ module _ (u : UsedRecord) (G : Group) (S : HasGroup (u .held) G) where
   request-determined (observationOf pauli q b) z = lot-determined u G S pauli q b z
   request-determined (renewalOf q k) z = never
 
-  request-outcome : (r : Request) → firstFitting (requestLines u r) ≡ 0 → RequestOutcomeIs G r (requestOutcome (u .held) r)
+  request-outcome : (r : Request) → firstFitting (requestLines u r) ≡ 0 → RequestOutcomeIs G r
+      (requestOutcome (u .held) r)
   request-outcome (carryOut o) z = outcome-of (u .held) G S o (used-step u o z)
   request-outcome (observationOf pauli q b) z = lot-outcome u G S pauli q b z
   request-outcome (renewalOf q k) z = refl
@@ -121,14 +122,16 @@ module _ (u : UsedRecord) (G : Group) (S : StandsFor u G) (s : Step) where
               (λ e. ((λ h. exactly .1 h z), request-determined u G (has-group u G S) (asked s) no-line .0 (sym d ∙ e))),
               (λ h. d ∙ request-determined u G (has-group u G S) (asked s) no-line .1 (h .1)),
             );
-            outcome = λ h. subst (RequestOutcomeIs G (asked s)) (sym o) (request-outcome u G (has-group u G S) (asked s) no-line);
+            outcome = λ h. subst (RequestOutcomeIs G (asked s)) (sym o)
+                (request-outcome u G (has-group u G S) (asked s) no-line);
             no-outcome = λ h. absurd (exactly .1 h z);
           }
         where
           no-line : firstFitting (requestLines u (asked s)) ≡ 0
           no-line = accepted-number u s z
 
-          d : acceptedNumber (numberOf u s) (requestDetermined (u .held) (asked s)) 0 ≡ requestDetermined (u .held) (asked s)
+          d : acceptedNumber (numberOf u s) (requestDetermined (u .held) (asked s)) 0 ≡ requestDetermined (u .held)
+              (asked s)
           d = is-answered (numberOf u s) (requestDetermined (u .held) (asked s)) z
 
           o : acceptedNumber (numberOf u s) (requestOutcome (u .held) (asked s)) 0 ≡ requestOutcome (u .held) (asked s)

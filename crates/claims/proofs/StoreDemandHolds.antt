@@ -103,7 +103,8 @@ forgotten-free k st P name h m = go (othersHeld k heads m) refl
         (getD-set-same (st .heads) (3 * p) 0 0 (omega (arith, below, P .heads-long)))
 
     go : (b : Bool) → othersHeld k heads m ≡ b → b ≡ false
-    go true e = absurd (true≢false (sym (every-at k (λ i. isHeld heads i && not (eqb (nameAt heads i) m)) e p below) ∙ own))
+    go true e = absurd (true≢false (sym (every-at k (λ i. isHeld heads i && not (eqb (nameAt heads i) m)) e p below) ∙
+        own))
     go false e = refl
 
 pub forgets-keep : ForgetsKeep

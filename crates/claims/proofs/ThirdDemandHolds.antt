@@ -37,7 +37,15 @@ use Rattle.comparison.specs.ComparedPairs.{compareList, inducedRecord}
 use Rattle.claims.proofs.AcceptedPairs.{accepted-pair, first-proper, no-line-holds, second-proper}
 use Rattle.claims.proofs.PartsDemandHolds.{no-large}
 use Rattle.claims.specs.PartsDemand.{SmallParts, part}
-use Rattle.claims.specs.ThirdDemand.{AcceptedPair, ComesBack, Decided, ThirdDemand, ThirdDemandTo20, complementEach, listUnder}
+use Rattle.claims.specs.ThirdDemand.{
+  AcceptedPair,
+  ComesBack,
+  Decided,
+  ThirdDemand,
+  ThirdDemandTo20,
+  complementEach,
+  listUnder,
+}
 
 -- a record complemented along a list has the graph complemented along it
 pub graph-each : (r : GraphRecord) (vs : List ℕ) (i j : ℕ) →

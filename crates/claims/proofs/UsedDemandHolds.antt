@@ -113,7 +113,8 @@ pub reductions-unused : ReductionsUnused
 reductions-unused l nb cs used nb′ cs′ used′ C =
     record {
       none = C .held .0;
-      passes = subst (λ w. firstFitting (usedLines (usedRecord (l .n) nb′ cs′ w) false false false) ≡ 0) (sym (C .held .0)) (unused-passes (lentRecord (l .n) nb′ cs′) false false
+      passes = subst (λ w. firstFitting (usedLines (usedRecord (l .n) nb′ cs′ w) false false false) ≡ 0)
+          (sym (C .held .0)) (unused-passes (lentRecord (l .n) nb′ cs′) false false
           (subst (λ r. firstFitting (recordLines r false false) ≡ 0)
           (sym (holds-reduced l nb cs used nb′ cs′ used′ C))
           (reduced-passes (l .n) (rows l) (A .proper) (A .formed .positive) (A .formed .upto))));

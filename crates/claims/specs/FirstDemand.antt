@@ -28,7 +28,8 @@ pub record FirstDemand : Type 0 where
   pub stores : StoresConform
   pub parties : PartiesConform
 
--- "What a buffer lent only for the answer holds before the call makes no line true": buffers of equal lengths give equal
+-- "What a buffer lent only for the answer holds before the call makes no line true": buffers of equal lengths give
+-- equal
 -- numbers
 pub record AnswerBuffersUnread : Type 0 where
   pub lists : ListBuffersUnread

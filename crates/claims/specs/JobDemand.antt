@@ -12,7 +12,8 @@ use Rattle.jobs.specs.Standing.{StandsFor}
 use Rattle.jobs.specs.declared.Step.{Step}
 use Rattle.operations.specs.Used.{UsedRecord}
 
--- of every job, after any number of its steps, with observations and renewals among them, which a job's text does not have
+-- of every job, after any number of its steps, with observations and renewals among them, which a job's text does not
+-- have
 abbrev pub JobsStand : Type 0
 JobsStand = (n : ℕ) → 1 ≤ n → n ≤ 64 → (steps : List Step) (k : ℕ) →
     StandsFor (recordAfter n steps k) (GroupAfter (started n) (StartGroup n) (take k steps))

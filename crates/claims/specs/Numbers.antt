@@ -1,5 +1,7 @@
--- Every number in words: for each call the lines of the published list that it may return, in checking order, each with what
--- it says of the arguments. `FirstTrue` of such a list is in the record of each exported function: "a number comes back only
+-- Every number in words: for each call the lines of the published list that it may return, in checking order, each with
+-- what
+-- it says of the arguments. `FirstTrue` of such a list is in the record of each exported function: "a number comes back
+-- only
 -- where its line below is true", and it is the first.
 --
 -- Of the calls in place: operations/specs/UsedSentences; of a store: store/specs/StoreSentences; of a party:
@@ -68,7 +70,8 @@ expandSentences u s z x =
 -- 5: also of a word that comes with the record: a side, a word y
 abbrev pub withWordSentences : UsedRecord → ℕ → List Sentence
 withWordSentences u word =
-    usedSentences u (RecordMisfits (u .held)) (StrayNeighbour (u .held) ⊎ (Stray (u .held .n) (u .used) ⊎ Stray (u .held .n) word))
+    usedSentences u (RecordMisfits (u .held)) (StrayNeighbour (u .held) ⊎
+    (Stray (u .held .n) (u .used) ⊎ Stray (u .held .n) word))
     (CodeAbove23 (u .held))
 
 -- 5: also of the two words of a row
@@ -127,7 +130,8 @@ AnswersMisfit n choice list = OtherLength n choice ⊎ OtherLength 96 list
 -- lines 2 to 10 of two lists
 abbrev pub pairSentences : GeneratorList → GeneratorList → List ℕ → List ℕ → List Sentence
 pairSentences l m choice list =
-    sentence 2 (CountsWrong (l .n) (m .n)) ∷ sentence 4 (ListMisfits l ⊎ (ListMisfits m ⊎ AnswersMisfit (l .n) choice list))
+    sentence 2 (CountsWrong (l .n) (m .n)) ∷ sentence 4 (ListMisfits l ⊎
+    (ListMisfits m ⊎ AnswersMisfit (l .n) choice list))
     ∷ sentence 5 (ListStrays l ⊎ ListStrays m) ∷ sentence 6 (SomeAbove 1 (l .signs) ⊎ SomeAbove 1 (m .signs))
     ∷ sentence 9 (TwoClash (l .n) (rows l) ⊎ TwoClash (m .n) (rows m))
     ∷ sentence 10 ((Independent (l .n) (rows l) → ⊥) ⊎ (Independent (m .n) (rows m) → ⊥)) ∷ []

@@ -1,5 +1,7 @@
--- Orbits (02, §14): "The list rises by number and holds each reachable graph exactly once and no other"; "Two graphs lie on
--- one list exactly if their plain states, all codes 0, pass 01's comparison." A name with a prime is what is held at exit.
+-- Orbits (02, §14): "The list rises by number and holds each reachable graph exactly once and no other"; "Two graphs
+-- lie on
+-- one list exactly if their plain states, all codes 0, pass 01's comparison." A name with a prime is what is held at
+-- exit.
 use mathlib.Core.List.{List}
 use mathlib.Core.Logic.{_↔_}
 use mathlib.Core.Path.{_≡_}
@@ -19,7 +21,8 @@ use Rattle.stabilizer.specs.Groups.{SameGroup}
 use Rattle.stabilizer.specs.Lists.{GeneratorList, rows}
 use Rattle.claims.specs.ThirdDemand.{AcceptedPair}
 
--- the call is accepted: 1 to 6 vertices, a word for each with no bit at or above n, a simple graph, a list of 32,768 places
+-- the call is accepted: 1 to 6 vertices, a word for each with no bit at or above n, a simple graph, a list of 32,768
+-- places
 pub record OrbitFits (n : ℕ) (neighbours list : List ℕ) : Type 0 where
   pub positive : 1 ≤ n
   pub few : n ≤ 6
@@ -53,7 +56,8 @@ plain θ = record { graph = θ; codes = λ q. cliffordOf 0 }
 abbrev pub Describes : GeneratorList → Graph → Type 0
 Describes l θ = SameGroup (l .n) (l .n) (rows l) (rowsOf (l .n) (plain θ))
 
--- the second graph is on the list of the first exactly if the comparison of two accepted lists that describe their plain
+-- the second graph is on the list of the first exactly if the comparison of two accepted lists that describe their
+-- plain
 -- states answers 0
 abbrev pub SameListExactly : Type 0
 SameListExactly = (l m : GeneratorList) (first second list : List ℕ) (count : ℕ) (list′ : List ℕ) (count′ : ℕ) →

@@ -48,7 +48,8 @@ pub record AcceptedLists (l m : GeneratorList) : Type 0 where
 
 -- "equivalent states have the same parts"
 abbrev pub EquivalentHaveSameParts : Type 0
-EquivalentHaveSameParts = (l m : GeneratorList) → AcceptedLists l m → (c : ℕ → Clifford) → Carries (l .n) c (rows l) (rows m)
+EquivalentHaveSameParts = (l m : GeneratorList) → AcceptedLists l m → (c : ℕ → Clifford) → Carries (l .n) c (rows l)
+    (rows m)
     → (q t : ℕ) → part l q t ≡ part m q t
 
 -- "where the parts agree, a working choice exists exactly if each has one": each part has a choice that carries the

@@ -1,5 +1,6 @@
--- What the program `amplitudes` prints for a text, from what fn `reply` of jobs_replies ensures of the text that was scanned,
--- whatever text it was. The bytes are those of the buffer up to the place that `reply` answers; the program writes these.
+-- What the program `amplitudes` prints for a text, from what fn `plot_reply` of jobs_replies ensures of the text that
+-- was scanned,
+-- whatever text it was. The bytes are those of the buffer up to the place that it answers; the program writes these.
 use mathlib.Core.List.{List}
 use mathlib.Core.Path.{_≡_}
 use Prim.Native.Nat.{_<_, _^_, ℕ, _≤_}
@@ -41,4 +42,5 @@ pub record PlotTextAnswered (t bytes : List ℕ) : Type 0 where
 -- of every response of `amplitudes`
 abbrev pub PlotTextsAnswered : Type 0
 PlotTextsAnswered =
-    (t before after : List ℕ) (end : ℕ) → ListResponse plotAnswer t before after end → PlotTextAnswered t (take end after)
+    (t before after : List ℕ) (end : ℕ) → ListResponse plotAnswer t before after end → PlotTextAnswered t
+    (take end after)

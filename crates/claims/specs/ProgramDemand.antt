@@ -1,6 +1,7 @@
--- What the programs `reduce` and `job` print for a text, from what fn `reply` of text_replies and of jobs_replies ensures of
--- the text that was scanned, whatever text it was. The bytes are those of the buffer up to the place that `reply`
--- answers; the program writes these.
+-- What the programs `reduce` and `job` print for a text, from what fn `list_reply` of text_replies and `job_reply` of
+-- jobs_replies ensure of the text that was scanned, whatever text it was. The bytes are those of the buffer up to the
+-- place
+-- that it answers; the program writes these.
 use mathlib.Core.List.{List}
 use mathlib.Core.Logic.{_↔_, _⊎_}
 use mathlib.Core.Path.{_≡_}
@@ -59,7 +60,8 @@ pub record ListTextAnswered (t bytes : List ℕ) : Type 0 where
 -- of every response of `reduce`
 abbrev pub ListTextsAnswered : Type 0
 ListTextsAnswered =
-    (t before after : List ℕ) (end : ℕ) → ListResponse listAnswer t before after end → ListTextAnswered t (take end after)
+    (t before after : List ℕ) (end : ℕ) → ListResponse listAnswer t before after end → ListTextAnswered t
+    (take end after)
 
 -- ---- `job`
 -- the operation is a measurement, and "the Pauli or its negative is in the group"

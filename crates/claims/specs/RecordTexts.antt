@@ -1,4 +1,5 @@
--- Records as texts, of the public calls: a record written (sukhlent_write_record) and a text read (sukhlent_read_record). A
+-- Records as texts, of the public calls: a record written (sukhlent_write_record) and a text read
+-- (sukhlent_read_record). A
 -- name with a prime is what the buffer, or the lent number, holds at exit.
 use mathlib.Core.List.{List, _++_, _∷_}
 use mathlib.Core.Logic.{_↔_, _⊎_}
@@ -83,9 +84,11 @@ pub record ReadRecordSays (t : List ℕ) (n : ℕ) (nb cs : List ℕ) (used n′
 -- ---- of both, and of the programs
 pub record RecordTextsDemand : Type 0 where
   -- "one record has one text": accepted texts that are read as one record are one text
-  pub one-text : (t s : List ℕ) (n : ℕ) (nb cs : List ℕ) (used m : ℕ) (nb₂ cs₂ : List ℕ) (used₂ n′ : ℕ) (nb′ cs′ : List ℕ)
+  pub one-text : (t s : List ℕ) (n : ℕ) (nb cs : List ℕ) (used m : ℕ) (nb₂ cs₂ : List ℕ) (used₂ n′ : ℕ)
+      (nb′ cs′ : List ℕ)
       (used′ : ℕ) (nb″ cs″ : List ℕ) → Call (readRecordCall t n nb cs used n′ nb′ cs′ used′) 0 →
-      Call (readRecordCall s m nb₂ cs₂ used₂ n′ nb″ cs″ used′) 0 → recordRead n′ nb′ cs′ used′ ≡ recordRead n′ nb″ cs″ used′ →
+      Call (readRecordCall s m nb₂ cs₂ used₂ n′ nb″ cs″ used′) 0 → recordRead n′ nb′ cs′ used′ ≡ recordRead n′ nb″ cs″
+      used′ →
       t ≡ s
   -- and accepted records with one text are one record
   pub one-record : (u v : UsedRecord) (a b : List ℕ) (i j : ℕ) (a′ b′ : List ℕ) (i′ j′ : ℕ) →

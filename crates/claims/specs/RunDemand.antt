@@ -1,5 +1,7 @@
--- Many steps in one call: demand 1 of sukhlent_run, which arguments it accepts, and what the record that it leaves and the
--- answer of each step say of the group. What `JobsStand` says of jobs is said of it: "the record after the first k steps
+-- Many steps in one call: demand 1 of sukhlent_run, which arguments it accepts, and what the record that it leaves and
+-- the
+-- answer of each step say of the group. What `JobsStand` says of jobs is said of it: "the record after the first k
+-- steps
 -- stands for the group that the definitions give, refused steps counting as no change" (02, §5).
 use mathlib.Core.List.{List, _∷_}
 use mathlib.Core.Logic.{_↔_, _⊎_}
@@ -53,7 +55,8 @@ SlicesDiffer s =
 abbrev pub runSentences : UsedRecord → LentSteps → List Sentence
 runSentences u s =
     sentence 15 (4096 < length (s .ops))
-    ∷ usedSentences u (RecordMisfits (u .held) ⊎ SlicesDiffer s) (StrayBit u) (CodeAbove23 (u .held) ⊎ SomeAbove 6 (s .ops))
+    ∷ usedSentences u (RecordMisfits (u .held) ⊎ SlicesDiffer s) (StrayBit u)
+    (CodeAbove23 (u .held) ⊎ SomeAbove 6 (s .ops))
 
 -- ---- what an accepted call leaves
 -- the group of a record: the products of its generators
@@ -70,7 +73,8 @@ pub record RunStands (u : UsedRecord) (G : Pauli → Type 0) (s : LentSteps) (ne
     (refusals′ outcomes′ determined′ : List ℕ) : Type 0 where
   -- the record that it leaves stands for the group after all steps, "refused steps counting as no change"
   pub group : StandsFor (record { held = left (u .held) neighbours′ codes′; used = used′ }) (GroupAfter u G (stepsOf s))
-  -- what is answered of step k is about the group after the first k steps: its refusal; its determined, 1 exactly if "the
+  -- what is answered of step k is about the group after the first k steps: its refusal; its determined, 1 exactly if
+  -- "the
   -- Pauli or its negative is in the group"; and its outcome
   pub steps : (k : ℕ) → k < length (s .ops) →
       LineSays (run u (take k (stepsOf s))) (GroupAfter u G (take k (stepsOf s)))

@@ -1,6 +1,7 @@
 -- The request on faster sessions, of the public calls: "For every record the answer equals the one from expanding,
 -- changing the list and reducing" (02, §7): of an accepted call, whose number is 0, what the two buffers nb′, cs′ hold
--- at exit; and of every call its number. "§7's equality is of graph and codes" (02, §8): the record is expanded with its
+-- at exit; and of every call its number. "§7's equality is of graph and codes" (02, §8): the record is expanded with
+-- its
 -- used word, and reducing answers the word 0.
 use mathlib.Core.List.{_++_, List, [], _∷_}
 use mathlib.Core.Logic.{_≢_}
@@ -129,7 +130,8 @@ CzNumbersByExpanding =
 pub record MeasureNumberByExpanding (u : UsedRecord) (pauli q b r : ℕ) : Type 0 where
   pub equal : (s z x s′ z′ x′ : List ℕ) (e : ℕ) → length s ≡ u .held .n → length z ≡ u .held .n →
       length x ≡ u .held .n → Call (expandCall u s z x s′ z′ x′) e → r ≡ firstFitting (expandLines u s z x
-      ++ (line 14 (contradicts (u .held .n) (rows (listIn (u .held .n) s′ z′ x′)) (pauliLetter pauli) q (isOdd b)) ∷ []))
+      ++ (line 14 (contradicts (u .held .n) (rows (listIn (u .held .n) s′ z′ x′)) (pauliLetter pauli) q (isOdd b)) ∷
+      []))
 
 -- of every measurement of a Pauli on a qubit, with a bit
 abbrev pub MeasureNumbersByExpanding : Type 0

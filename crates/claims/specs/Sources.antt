@@ -1,4 +1,5 @@
--- A source that goes on, of the public calls: a measurement with a bit by lot (sukhlent_observe), and a new photon at a used
+-- A source that goes on, of the public calls: a measurement with a bit by lot (sukhlent_observe), and a new photon at a
+-- used
 -- place (sukhlent_renew). A name with a prime is what the buffer, or the lent number, holds at exit.
 use mathlib.Core.Bool.{_&&_, false, not, true}
 use mathlib.Core.List.{List, [], _++_, _∷_}
@@ -45,7 +46,8 @@ pub record ObservationStands (l : LentRecord) (pauli q b : ℕ) (after : LentRec
   pub answers : IsReduced after
   pub either : (determined′ ≡ 0) ⊎ (determined′ ≡ 1)
   pub outcome : (answer′ ≡ 0) ⊎ (answer′ ≡ 1)
-  -- "If the Pauli or its negative is in the group, the answer says determined, gives the sign as outcome, ignores the bit
+  -- "If the Pauli or its negative is in the group, the answer says determined, gives the sign as outcome, ignores the
+  -- bit
   -- and keeps the group"
   pub exactly : (determined′ ≡ 1) ↔ (InGroup (l .n) (l .n) (heldRows l) (signedPauli pauli q false)
       ⊎ InGroup (l .n) (l .n) (heldRows l) (signedPauli pauli q true))
@@ -73,7 +75,8 @@ pub record ObserveSays (u : UsedRecord) (pauli q b answer determined : ℕ) (nb�
   pub same : MeasureFits u pauli q b →
       Call (usedMeasureCall u pauli q b answer determined nb′ cs′ used′ answer′ determined′) r
   -- accepted, it is the measurement with the outcome that it answers
-  pub as-measured : r ≡ 0 → Call (usedMeasureCall u pauli q answer′ answer determined nb′ cs′ used′ answer′ determined′) 0
+  pub as-measured : r ≡ 0 → Call (usedMeasureCall u pauli q answer′ answer determined nb′ cs′ used′ answer′ determined′)
+      0
   -- "so it never gives 14"
   pub never-14 : r ≡ 14 → ⊥
   -- "Everything else, the used bit too, as for `measure`"
@@ -110,7 +113,8 @@ pub record RenewalStands (u : UsedRecord) (q k : ℕ) (after : UsedRecord) : Typ
 abbrev pub linesBefore20 : UsedRecord → ℕ → ℕ → List Refusal
 linesBefore20 u q k = usedLines u false false (not (usedCode k)) ++ (line 8 (leb (u .held .n) q) ∷ [])
 
--- its lines. 6: the code is none of 0, 2, 4, 6, 8 and 10; 8: "A qubit number is n or more"; 20: "the qubit to renew is not
+-- its lines. 6: the code is none of 0, 2, 4, 6, 8 and 10; 8: "A qubit number is n or more"; 20: "the qubit to renew is
+-- not
 -- used"
 abbrev pub renewSentences : UsedRecord → ℕ → ℕ → List Sentence
 renewSentences u q k =

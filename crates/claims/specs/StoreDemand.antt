@@ -47,7 +47,8 @@ abbrev pub ForgetsKeep : Type 0
 ForgetsKeep = (name : ℕ) (st : Store) (heads′ : List ℕ) → Call (forgetCall name st heads′) 0 →
     ForgetKeeps name st (storeOf heads′ (st .neighbours) (st .codes))
 
--- ---- "Returning brings back the whole record, its n and used word included": the first n′ places; the others keep theirs
+-- ---- "Returning brings back the whole record, its n and used word included": the first n′ places; the others keep
+-- theirs
 pub record ReturnGives (name : ℕ) (st : Store) (nb cs : List ℕ) (n′ : ℕ) (nb′ cs′ : List ℕ) (used′ : ℕ) : Type 0 where
   pub held : lookup 8 st name ≡ found (usedRecord n′ (take n′ nb′) (take n′ cs′) used′)
   pub words-kept : drop n′ nb′ ≡ drop n′ nb
@@ -95,7 +96,8 @@ afterAction s (saves name) =
     }
 afterAction s (returns name) =
     record {
-      current = cond (eqb (firstFitting (namedLines 8 name (s .store) false)) 0) (heldUnder name (s .store)) (s .current);
+      current = cond (eqb (firstFitting (namedLines 8 name (s .store) false)) 0) (heldUnder name (s .store))
+          (s .current);
       store = s .store;
     }
 afterAction s (forgets name) =

@@ -56,7 +56,8 @@ pub record Decided (l m : GeneratorList) (list : List ℕ) (r : ℕ) (choice′ 
   pub otherwise : (r ≡ 13 → ⊥) → (r ≡ 0) × ComesBack l m list choice′ list′ count′
 
 -- "For every two generator lists, and whatever the lent answer buffers held": "lists and buffers are accepted where
--- none of lines 2 to 10 below holds of the lists, nor line 4 of the buffers"; and "demand 3 holds for n up to 64 where no
+-- none of lines 2 to 10 below holds of the lists, nor line 4 of the buffers"; and "demand 3 holds for n up to 64 where
+-- no
 -- part is larger than 20" (02, §9)
 abbrev pub ThirdDemand : Type 0
 ThirdDemand =
@@ -64,7 +65,8 @@ ThirdDemand =
     Call (compareCall l m choice list count choice′ list′ count′) r → firstFitting (pairLines l m choice list) ≡ 0 →
     SmallParts l → SmallParts m → Decided l m list r choice′ list′ count′
 
--- "if lists and buffers are accepted, and the lists describe states on the same number n of qubits"; an accepted list has
+-- "if lists and buffers are accepted, and the lists describe states on the same number n of qubits"; an accepted list
+-- has
 -- n from 1 to 64
 pub record AcceptedPair (l m : GeneratorList) (choice list : List ℕ) : Type 0 where
   pub first : firstFitting (checkLines l) ≡ 0

@@ -1,4 +1,5 @@
--- Used-up photons (02, §8), of the public calls: "A record gains a word of used qubits, and an accepted measurement sets
+-- Used-up photons (02, §8), of the public calls: "A record gains a word of used qubits, and an accepted measurement
+-- sets
 -- the qubit's bit". A name with a prime is what the buffer, or the lent number, holds at exit.
 use mathlib.Core.Bool.{false, true, _||_}
 use mathlib.Core.List.{List}
@@ -53,7 +54,8 @@ MeasurementsMark =
     Call (usedMeasureCall u pauli q b answer determined nb′ cs′ used′ answer′ determined′) 0 →
     UsedMarked u pauli q b nb′ cs′ used′ answer′
 
--- ---- 16, "the call names a used qubit; checked directly after 8": exactly if no earlier line holds and a named qubit is
+-- ---- 16, "the call names a used qubit; checked directly after 8": exactly if no earlier line holds and a named qubit
+-- is
 -- used. The lines before it are those of 2 to 8
 abbrev pub SixteenExactly : UsedRecord → Operation → ℕ → Type 0
 SixteenExactly u o r = (r ≡ 16) ↔ ((firstFitting (earlierLines u o) ≡ 0) × (namesUsed u o ≡ true))

@@ -21,6 +21,7 @@ use Rattle.claims_examples.specs.internal.Table.{table}
 
 pub examples : AllHold table
 unfolding inverse first some every fold put bit wordOf mul anticommute act clashing dependent isColumnDependent
-    reducedRow graphOf ysOf minusesOf tabulate firstFitting reaching notSimple complementedAt moves movesUpto member stuck
+    reducedRow graphOf ysOf minusesOf tabulate firstFitting reaching notSimple complementedAt moves movesUpto member
+    stuck
     looped isCarrying choice leastNumber isClosed partOf partAbove
 examples = refl

@@ -20,5 +20,6 @@ use Rattle.claims_examples_sessions.specs.internal.JobTable.{table}
 
 pub jobs-run : AllHold table
 unfolding fold put bit wordOf some every first power mul anticommute inverse act tabulate firstFitting
-    reaching clashing dependent notSimple isColumnDependent reducedRow graphOf ysOf minusesOf cz member usedWrong run stepAnswers
+    reaching clashing dependent notSimple isColumnDependent reducedRow graphOf ysOf minusesOf cz member usedWrong run
+    stepAnswers
 jobs-run = refl

@@ -8,7 +8,18 @@ use native.Mathlib.Nat.{mod-eq-of-lt}
 use native.Mathlib.Omega.{arith}
 use lib.Dec.{eqb, leb}
 use borrow.Author.Tests.{lt-leb}
-use Rattle.buffers.proofs.SentenceLaws.{Decides, Matches, and-decides, and-then, from, itself, or-decides, or-none, some-decides, stray}
+use Rattle.buffers.proofs.SentenceLaws.{
+  Decides,
+  Matches,
+  and-decides,
+  and-then,
+  from,
+  itself,
+  or-decides,
+  or-none,
+  some-decides,
+  stray,
+}
 use Rattle.buffers.specs.Calls.{Call}
 use Rattle.buffers.specs.Refusals.{firstFitting, line}
 use Rattle.buffers.specs.Sentences.{Stray, sentence}
@@ -36,7 +47,15 @@ use Rattle.operations.specs.UsedSentences.{usedSentences}
 use Rattle.operations.specs.declared.Outcome.the-variants.{Chosen, Determined}
 use Rattle.parity.proofs.RowGroups.{row-element, row-group, row-kept, row-proper}
 use Rattle.parity.proofs.RowLetters.{letter-outcome, letter-rows}
-use Rattle.parity.proofs.RowPassing.{RowReady, idle-on-used, idle-passes, row-accepted, row-passes, row-ready, row-sixteen}
+use Rattle.parity.proofs.RowPassing.{
+  RowReady,
+  idle-on-used,
+  idle-passes,
+  row-accepted,
+  row-passes,
+  row-ready,
+  row-sixteen,
+}
 use Rattle.parity.proofs.RowUsed.{row-left-passes, row-stays}
 use Rattle.parity.proofs.RowValues.{identity-value, value-after}
 use Rattle.parity.specs.RowLines.{actsOnUsed, measureRowLines, rowArguments}
@@ -63,14 +82,16 @@ use Rattle.claims_parity.specs.Parities.{
 
 -- the two numbers of an outcome, by whether it is open
 open-numbers : (o m b : Bool) → o ≡ true
-    → (outcomeNumber (cond o (Chosen b) (Determined m)) ≡ digit b) × (determinedNumber (cond o (Chosen b) (Determined m)) ≡ 0)
+    → (outcomeNumber (cond o (Chosen b) (Determined m)) ≡ digit b) ×
+    (determinedNumber (cond o (Chosen b) (Determined m)) ≡ 0)
 open-numbers o m b e = (
   ap (λ t. outcomeNumber (cond t (Chosen b) (Determined m))) e,
   ap (λ t. determinedNumber (cond t (Chosen b) (Determined m))) e,
 )
 
 known-numbers : (o m b : Bool) → o ≡ false
-    → (outcomeNumber (cond o (Chosen b) (Determined m)) ≡ digit m) × (determinedNumber (cond o (Chosen b) (Determined m)) ≡ 1)
+    → (outcomeNumber (cond o (Chosen b) (Determined m)) ≡ digit m) ×
+    (determinedNumber (cond o (Chosen b) (Determined m)) ≡ 1)
 known-numbers o m b e = (
   ap (λ t. outcomeNumber (cond t (Chosen b) (Determined m))) e,
   ap (λ t. determinedNumber (cond t (Chosen b) (Determined m))) e,
@@ -244,7 +265,8 @@ module _ (u : UsedRecord) (z x b : ℕ) where
       copied =
           record {
             stay = subst (UsedStay u) is-after (row-stays u z x b F (fits .idle) (isOdd b));
-            passes = subst (λ r. firstFitting (usedLines (record { held = r; used = u .used }) false false false) ≡ 0) is-after
+            passes = subst (λ r. firstFitting (usedLines (record { held = r; used = u .used }) false false false) ≡ 0)
+                is-after
                 (row-left-passes u z x b F (fits .idle) (isOdd b));
           }
 
@@ -261,7 +283,8 @@ module _ (u : UsedRecord) (z x b : ℕ) where
           → (k ≡ 0) × (value′ ≡ answer′)
       values value value′ k D =
           let fine = expectations-accepted .expectation (leftUsed u nb′ cs′ (u .used)) z x value value′ k D .1
-          (used-exactly (leftUsed u nb′ cs′ (u .used)) false false false .0 (copied .passes) .0, F .z-below, F .x-below) in (
+          (used-exactly (leftUsed u nb′ cs′ (u .used)) false false false .0 (copied .passes) .0, F .z-below, F .x-below)
+          in (
             fine,
             at-zero D fine .held .0 ∙ ap (λ r. rowValue n (heldRows r) z x) (sym is-after) ∙ value-of,
           )

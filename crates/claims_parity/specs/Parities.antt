@@ -1,4 +1,5 @@
--- Measurements of Pauli rows, of the public call sukhlent_measure_row. A name with a prime is what the buffer, or the lent
+-- Measurements of Pauli rows, of the public call sukhlent_measure_row. A name with a prime is what the buffer, or the
+-- lent
 -- number, holds at exit.
 use mathlib.Core.Bool.{false, true}
 use mathlib.Core.List.{List, [], _++_, _∷_}
@@ -61,7 +62,8 @@ pub record RowStands (l : LentRecord) (z x b : ℕ) (after : LentRecord) (answer
       ⊎ InGroup (l .n) (l .n) (heldRows l) (signedRow true z x))
   pub sign : determined′ ≡ 1 → InGroup (l .n) (l .n) (heldRows l) (signedRow (isOdd answer′) z x)
   pub kept : determined′ ≡ 1 → SameGroup (l .n) (l .n) (heldRows l) (heldRows after)
-  -- "otherwise the outcome is the bit and the group becomes the elements that commute with the row, joined by the row with
+  -- "otherwise the outcome is the bit and the group becomes the elements that commute with the row, joined by the row
+  -- with
   -- that sign"
   pub bit : determined′ ≡ 0 → answer′ ≡ b
   pub joined : determined′ ≡ 0 → (p : Pauli) → InGroup (l .n) (l .n) (heldRows after) p
@@ -70,14 +72,16 @@ pub record RowStands (l : LentRecord) (z x b : ℕ) (after : LentRecord) (answer
   pub identity : z ≡ 0 → x ≡ 0 → (determined′ ≡ 1) × (answer′ ≡ 0)
 
 -- two calls answered and left the same
-pub record SameAnswers (answer determined : ℕ) (nb cs : List ℕ) (answer₂ determined₂ : ℕ) (nb₂ cs₂ : List ℕ) : Type 0 where
-  pub outcome : answer₂ ≡ answer
-  pub flag : determined₂ ≡ determined
-  pub neighbours : nb₂ ≡ nb
-  pub codes : cs₂ ≡ cs
+pub record SameAnswers (answer determined : ℕ) (nb cs : List ℕ) (answer₂ determined₂ : ℕ) (nb₂ cs₂ : List ℕ) : Type 0
+  where
+    pub outcome : answer₂ ≡ answer
+    pub flag : determined₂ ≡ determined
+    pub neighbours : nb₂ ≡ nb
+    pub codes : cs₂ ≡ cs
 
 -- sukhlent_measure_row, in one record
-pub record MeasureRowSays (u : UsedRecord) (z x b answer determined : ℕ) (nb′ cs′ : List ℕ) (answer′ determined′ r : ℕ) :
+pub record MeasureRowSays (u : UsedRecord) (z x b answer determined : ℕ) (nb′ cs′ : List ℕ) (answer′ determined′ r : ℕ)
+    :
     Type 0 where
   pub answered : Answered (measureRowCall u z x b answer determined nb′ cs′ answer′ determined′) r
   pub accepted : (r ≡ 0) ↔ RowFits u z x b

@@ -55,7 +55,8 @@ module _ (word g : ℕ) (u : UsedRecord) (o : Operation) (G : PartyOp o)
     whole : left (u .held) nb″ cs″ ≡ leaves (u .held) o
     whole = λ j. record {
       n = u .held .n;
-      neighbours = (c ∙ ap (λ m. accepted m (neighbourWords (u .held .n) (made (u .held) o)) (u .held .neighbours)) plain) j;
+      neighbours = (c ∙ ap (λ m. accepted m (neighbourWords (u .held .n) (made (u .held) o)) (u .held .neighbours))
+          plain) j;
       codes = (d ∙ ap (λ m. accepted m (codeNumbers (u .held .n) (made (u .held) o)) (u .held .codes)) plain) j;
     }
 

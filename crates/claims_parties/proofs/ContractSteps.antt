@@ -184,7 +184,8 @@ contracts-are-steps =
       );
       renew = λ word g s q k r nb′ cs′ used′ C. record {
         number = C .number;
-        state = record-step s (sharedNumber word g s (partyRenew q k)) r (C .number) (renewed (s .current) q k) refl nb′ cs′
+        state = record-step s (sharedNumber word g s (partyRenew q k)) r (C .number) (renewed (s .current) q k) refl nb′
+            cs′
             used′ (C .held .1 .0) (C .held .1 .1 .0) (C .held .0);
       };
       save = λ word g s name r heads′ nb′ cs′ C. record {

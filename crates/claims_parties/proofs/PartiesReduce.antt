@@ -81,8 +81,10 @@ module _ (word g : ℕ) (u : UsedRecord) (o : Operation) (G : PartyOp o) (R : Re
   again : (masked (inParty word g) after) .held ≡ after .held
   again = λ j. record {
     n = after .held .n;
-    neighbours = sym (tabulate-is (after .held .n) _ (after .held .neighbours) (A .neighbours-length) (λ q l. word-at q l (s q) refl)) j;
-    codes = sym (tabulate-is (after .held .n) _ (after .held .codes) (A .codes-length) (λ q l. code-at q l (s q) refl)) j;
+    neighbours = sym (tabulate-is (after .held .n) _ (after .held .neighbours) (A .neighbours-length)
+        (λ q l. word-at q l (s q) refl)) j;
+    codes = sym (tabulate-is (after .held .n) _ (after .held .codes) (A .codes-length) (λ q l. code-at q l (s q) refl))
+        j;
   }
     where
       word-at : (q : ℕ) → q < after .held .n → (b : Bool) → s q ≡ b →

@@ -93,7 +93,8 @@ module _ (word g : ℕ) (s : Session) (e : crosses word (s .current) ≡ true) w
   by-nineteen (partyForget name) z =
       decides (linesBefore 19 (partyNamedLines word g (s .current) name (s .store))) refl (sym z) refl (here e)
   by-nineteen (partyObserve pauli q b) z =
-      decides (linesBefore 19 (partyObserveLines word g (s .current) pauli q b)) refl (sym z) refl (here (crossing-at q))
+      decides (linesBefore 19 (partyObserveLines word g (s .current) pauli q b)) refl (sym z) refl
+      (here (crossing-at q))
   by-nineteen (partyRenew q k) z =
       decides (linesBefore 19 (partyRenewLines word g (s .current) q k)) refl (sym z) refl (here (crossing-at q))
 
@@ -119,7 +120,8 @@ module _ (word g : ℕ) (above : 1 < g) (s : Session) where
       (((ofRecord (s .current) 6 || holdsLine 6 (ownLines (inParty word g) g (s .store))) || ltb 1 g) || false) ≡ true
   store-six = six-holds (ofRecord (s .current) 6 || holdsLine 6 (ownLines (inParty word g) g (s .store)))
 
-  by-six : (c : SharedCall) → firstFitting (linesBefore 6 (sharedCallLines word g s c)) ≡ 0 → 6 ≡ sharedNumber word g s c
+  by-six : (c : SharedCall) → firstFitting (linesBefore 6 (sharedCallLines word g s c)) ≡ 0 → 6 ≡ sharedNumber word g s
+      c
   by-six (partyGate q k) z =
       decides (linesBefore 6 (partyLines word g (s .current) (gateWith q k))) refl (sym z) refl
       (here (operation-six (leb 24 k)))

@@ -1,4 +1,5 @@
--- What is said of a party's observation and renewal, from their contracts: the observation is the party's measurement with the
+-- What is said of a party's observation and renewal, from their contracts: the observation is the party's measurement
+-- with the
 -- outcome that it answers, and the renewal is that of the whole record.
 use mathlib.Core.Bool.{_&&_, Bool, and-true, false, not, or-false, true≢false, _||_}
 use mathlib.Core.List.{List, []}
@@ -8,7 +9,18 @@ use Prim.Native.Nat.{_<_, ℕ}
 use native.Mathlib.Omega.{arith}
 use lib.Dec.{ltb}
 use lib.ListN.{getD, length-set}
-use Rattle.buffers.proofs.SentenceLaws.{Matches, above, at-most, bad-count, equal, itself, not-decides, or-decides, or-none, stray}
+use Rattle.buffers.proofs.SentenceLaws.{
+  Matches,
+  above,
+  at-most,
+  bad-count,
+  equal,
+  itself,
+  not-decides,
+  or-decides,
+  or-none,
+  stray,
+}
 use Rattle.buffers.specs.Refusals.{firstFitting}
 use Rattle.calls.proofs.PartySourceCalls.{observed-as-measured}
 use Rattle.calls.proofs.InPlaceLines.{held-accepted}
@@ -94,9 +106,11 @@ module _ (word g : ℕ) (u : UsedRecord) where
                 );
           }
 
-      measured : r ≡ 0 → Call (partyMeasureCall word g u pauli q (source.answered u pauli q b) answer determined nb′ cs′ used′
+      measured : r ≡ 0 → Call (partyMeasureCall word g u pauli q (source.answered u pauli q b) answer determined nb′ cs′
+          used′
           answer′ determined′) 0
-      measured z = observed-as-measured word g u pauli q b answer determined nb′ cs′ used′ answer′ determined′ (at-zero C z)
+      measured z = observed-as-measured word g u pauli q b answer determined nb′ cs′ used′ answer′ determined′
+          (at-zero C z)
 
       pub group-observe-says : GroupObserveSays word g u pauli q b answer determined nb′ cs′ used′ answer′ determined′ r
       group-observe-says =
@@ -107,11 +121,14 @@ module _ (word g : ℕ) (u : UsedRecord) where
             never-14 = λ e. let p = skips (partyObserveLines word g u pauli q b) {ms = []} 14 refl e
                 (fits-at (partyObserveLines word g u pauli q b) (C .number)) in
                 absurd (omega (arith, e, passed-all (p .1)));
-            as-measured = λ z. subst (λ v. Call (partyMeasureCall word g u pauli q v answer determined nb′ cs′ used′ answer′
+            as-measured = λ z. subst (λ v. Call (partyMeasureCall word g u pauli q v answer determined nb′ cs′ used′
+                answer′
                 determined′) 0) (sym (at-zero C z .held .1 .0)) (measured z);
-            keeps = λ z. party-calls-keep .measure word g u pauli q (source.answered u pauli q b) answer determined nb′ cs′ used′
+            keeps = λ z. party-calls-keep .measure word g u pauli q (source.answered u pauli q b) answer determined nb′
+                cs′ used′
                 answer′ determined′ (measured z);
-            reduces = λ z. party-calls-reduce .measure word g u pauli q (source.answered u pauli q b) answer determined nb′ cs′
+            reduces = λ z. party-calls-reduce .measure word g u pauli q (source.answered u pauli q b) answer determined
+                nb′ cs′
                 used′ answer′ determined′ (measured z);
             stands = λ z r″ nb″ cs″ used″ answer″ determined″ W.
                 let zero : r″ ≡ 0 = W .number ∙ observed-passes-party word g u pauli q b (by-lines C .0 z) .lines in
@@ -156,7 +173,8 @@ module _ (word g : ℕ) (u : UsedRecord) where
                 λ e. (
                   refl,
                   (
-                    or-none (or-decides (or-none (or-none (or-decides (code-above-23 (u .held)) (not-decides (of-six k)))))
+                    or-none (or-decides (or-none (or-none (or-decides (code-above-23 (u .held))
+                        (not-decides (of-six k)))))
                         (above 1 g)),
                     λ e6. (
                       refl,
@@ -213,9 +231,11 @@ module _ (word g : ℕ) (u : UsedRecord) where
         record {
           words = λ t l h. ap (λ nb. getD nb t 0) (S .neighbours);
           codes = λ t l h. S .codes t (other t h);
-          used = λ t l h. S .unmarked t ∙ ap (λ e. bit (u .used) t && not e) (other-place (other t h)) ∙ and-true (bit (u .used) t);
+          used = λ t l h. S .unmarked t ∙ ap (λ e. bit (u .used) t && not e) (other-place (other t h)) ∙ and-true
+              (bit (u .used) t);
           still = S .passes;
-          apart = subst (λ v. crosses word v ≡ false) e (renewed-apart word u q k (apart-of z) (renewed-passes-party word g u q k z .lines) .no-crossing);
+          apart = subst (λ v. crosses word v ≡ false) e (renewed-apart word u q k (apart-of z)
+              (renewed-passes-party word g u q k z .lines) .no-crossing);
         }
 
     module _ (nb′ cs′ : List ℕ) (used′ r : ℕ) (C : Call (partyRenewCall word g u q k nb′ cs′ used′) r) where
@@ -230,7 +250,8 @@ module _ (word g : ℕ) (u : UsedRecord) where
           }
 
       same : r ≡ 0 → renewed u q k ≡ leftUsed u nb′ cs′ used′
-      same z = let D = at-zero C z in λ i. usedRecord (u .held .n) (sym (D .held .1 .0) i) (sym (D .held .1 .1 .0) i) (sym (D .held .0) i)
+      same z = let D = at-zero C z in λ i. usedRecord (u .held .n) (sym (D .held .1 .0) i) (sym (D .held .1 .1 .0) i)
+          (sym (D .held .0) i)
 
       pub group-renew-says : GroupRenewSays word g u q k nb′ cs′ used′ r
       group-renew-says =

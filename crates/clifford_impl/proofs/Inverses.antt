@@ -1,4 +1,5 @@
--- The action that undoes another: the inverse of each block of two bits, and the signs of the letters sent to X, Y and Z.
+-- The action that undoes another: the inverse of each block of two bits, and the signs of the letters sent to X, Y and
+-- Z.
 use mathlib.Core.Bool.{Bool}
 use mathlib.Core.Path.{ap, ap₂, sym, _∙_, _≡_}
 use Prim.Native.Nat.{_<_, ℕ}

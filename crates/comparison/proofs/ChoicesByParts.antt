@@ -127,7 +127,8 @@ module _ (n : ℕ) (r t : GraphRecord) (R : Simple n (r .graph)) (T : Simple n (
         sent : (j : ℕ) → j < n → InGroup n n (rowsOf n t) (act n made (rowsOf n r j))
         sent j l =
             let F = head-is j l in
-            let inside : partOf n (r .graph) (head j) j ≡ true = part-together n (r .graph) (R .symmetric) j (head j) j l
+            let inside : partOf n (r .graph) (head j) j ≡ true = part-together n (r .graph) (R .symmetric) j (head j) j
+            l
             (F .below) l (F .passes) (part-has n (r .graph) j) in
             subst (InGroup n n (rowsOf n t))
             (same-sent n r t R T (partOf n (r .graph) j) (part-closed n (r .graph) j l) (serving (head j) .0) made

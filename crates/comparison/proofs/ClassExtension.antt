@@ -1,4 +1,5 @@
--- Classes that satisfy the equations of the first qubits extend to classes that solve all: a solution that is invertible
+-- Classes that satisfy the equations of the first qubits extend to classes that solve all: a solution that is
+-- invertible
 -- at one qubit is invertible at all, since the first graph is connected. And what solves all sends each generator into
 -- the second group, up to a sign.
 use mathlib.Core.Bool.{_&&_, Bool, false, true}
@@ -120,7 +121,8 @@ module _ (n : ℕ) (w : Assignment) (g h : Generator) (W : Within n (generatorOf
       word : (u v t : ℕ) → u < 2 ^ n → parity n (λ q. (bit u q && bit v q) && bit t q) ≡ dot (bitAnd u v) t
       word u v t l =
           fold-ext false _⊕_ n (λ q k. ap (λ b. b && bit t q) (sym (bit-and u v q)) ∙ sym (bit-and (bitAnd u v) t q))
-          ∙ sym (parity-ones n (bitAnd (bitAnd u v) t) (lt-of-le-of-lt (le-trans (and-le-l (bitAnd u v) t) (and-le-l u v)) l))
+          ∙ sym (parity-ones n (bitAnd (bitAnd u v) t) (lt-of-le-of-lt
+          (le-trans (and-le-l (bitAnd u v) t) (and-le-l u v)) l))
 
 -- ---- the solutions of the table
 module _ (n : ℕ) (first second : List Generator) (frame : List ℕ) (S : Setting n first second frame)
@@ -188,7 +190,8 @@ module _ (n : ℕ) (first second : List Generator) (frame : List ℕ) (S : Setti
         go e i j l (inr k) p = absurd (not-suc-le-zero (k .1))
 
   -- the entries of an assignment that agrees with a choice's
-  entries : (c : ℕ → Clifford) (q : ℕ) → q ≤ n → (w : Assignment) → SameBelow q w (classAssignment n c) → (u : ℕ) → u < q
+  entries : (c : ℕ → Clifford) (q : ℕ) → q ≤ n → (w : Assignment) → SameBelow q w (classAssignment n c) → (u : ℕ) → u <
+      q
       → (bit (w .a) u ≡ zBit (imageZ (c u .class))) × (bit (w .b) u ≡ zBit (imageX (c u .class)))
       × (bit (w .c) u ≡ xBit (imageZ (c u .class))) × (bit (w .d) u ≡ xBit (imageX (c u .class)))
   unfolding classAssignment
@@ -216,7 +219,8 @@ module _ (n : ℕ) (first second : List Generator) (frame : List ℕ) (S : Setti
       w = R .0
 
   -- classes that satisfy the equations of all qubits
-  pub classes-send : (c : ℕ → Clifford) → ((i : ℕ) → i < 4 * n → fails (equationAt table i) (classAssignment n c) ≡ false)
+  pub classes-send : (c : ℕ → Clifford) → ((i : ℕ) → i < 4 * n → fails (equationAt table i) (classAssignment n c) ≡
+      false)
       → SentUpToSign n first second c
   unfolding classAssignment
   classes-send c h i k =

@@ -130,7 +130,8 @@ module _ (n : ℕ) (first second : List Generator) where
           go : (t ≡ j) ⊎ (t < j) → ClassAsked n first second i j f ⊎ (f ≡ e)
           go (inr k) = inl (s, t, m, inr (p .0, k), h)
           go (inl q) =
-              inr (h ∙ ap₂ (λ s t. classEquation (getD first s noGenerator) (getD second t noGenerator)) (p .0) q ∙ sym he)
+              inr (h ∙ ap₂ (λ s t. classEquation (getD first s noGenerator) (getD second t noGenerator)) (p .0) q ∙ sym
+              he)
 
   pub class-row : (i j : ℕ) → n ≤ j → (table : List Equation) → ClassTable n first second i j table
       → ClassTable n first second (i + 1) 0 table

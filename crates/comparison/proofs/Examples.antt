@@ -17,7 +17,8 @@ one s z x = rows (record { n = 1; signs = s ∷ []; z = z ∷ []; x = x ∷ [] }
 abbrev given : List ℕ
 given =
     -- +Y to +X, +X to +Y, +Z to +Y, +X to -X, +X to -Z, +Z to -Z
-    leastCode 1 (one 0 1 1) (one 0 0 1) 0 ∷ leastCode 1 (one 0 0 1) (one 0 1 1) 0 ∷ leastCode 1 (one 0 1 0) (one 0 1 1) 0
+    leastCode 1 (one 0 1 1) (one 0 0 1) 0 ∷ leastCode 1 (one 0 0 1) (one 0 1 1) 0 ∷ leastCode 1 (one 0 1 0) (one 0 1 1)
+    0
     ∷ leastCode 1 (one 0 0 1) (one 1 0 1) 0 ∷ leastCode 1 (one 0 0 1) (one 1 1 0) 0
     ∷ leastCode 1 (one 0 1 0) (one 1 1 0) 0 ∷ []
 

@@ -35,7 +35,8 @@ dot-short n u v l = parity-ones n _ (and-lt-right n u v l) ∙ fold-ext false _�
 
 pub dot-single : (u q : ℕ) → dot u (2 ^ q) ≡ bit u q
 dot-single u q =
-    dot-short (suc q) u (2 ^ q) (lt-of-bits (suc q) (2 ^ q) (λ t l. bit-single q t ∙ other-place (λ e. ne-of-lt l (sym e))))
+    dot-short (suc q) u (2 ^ q) (lt-of-bits (suc q) (2 ^ q) (λ t l. bit-single q t ∙ other-place
+    (λ e. ne-of-lt l (sym e))))
     ∙ fold-ext false _⊕_ (suc q) (λ t l. ap (λ b. bit u t && b) (bit-single q t))
     ∙ parity-at (suc q) (bit u) q (omega arith)
 
@@ -120,8 +121,12 @@ module _ (table : List Equation) (T : Triangular table) where
           last i (inr l) = h i l
           last i (inl q) = ap (λ i. fails (equationAt table i) w) q ∙ e
       go true e (inr k) = absurd (true≢false (sym e ∙ ap (λ f. fails f w) k ∙ empty-holds w))
-      go true e (inl k) =
-          (changed (p % 4) (p / 4) w, (λ m l. same-changed (p % 4) (p / 4) m w (quarter m l)), λ i l. last i (last-or l))
+      go true e (inl k) = (
+        changed (p % 4) (p / 4) w,
+        (λ m l. same-changed (p % 4) (p / 4) m w (quarter m l)),
+        λ i l. last i
+            (last-or l),
+      )
         where
           quarter : (m : ℕ) → 4 * m ≤ p → m ≤ p / 4
           quarter m l = omega (arith, l)
@@ -150,7 +155,8 @@ module _ (table : List Equation) (T : Triangular table) where
       go : (i < 256) ⊎ (256 ≤ i) → fails (equationAt table i) w ≡ false
       go (inl l) = h i l
       go (inr l) =
-          ap (λ e. fails e w) (List·getD-eq-default table emptyEquation (subst (λ n. n ≤ i) (sym (T .long)) l)) ∙ empty-holds w
+          ap (λ e. fails e w) (List·getD-eq-default table emptyEquation (subst (λ n. n ≤ i) (sym (T .long)) l)) ∙
+          empty-holds w
 
   pub extended : (q : ℕ) → q ≤ 64 → (w : Assignment) → ((i : ℕ) → i < 4 * q → fails (equationAt table i) w ≡ false)
       → (w′ : Assignment) × SameBelow q w′ w × Solves table w′

@@ -7,7 +7,8 @@ use Rattle.buffers.proofs.Filling.{FilledBy, one-filled}
 use Rattle.pauli.specs.declared.Generator.{Generator}
 use Rattle.comparison.specs.internal.Setting.{generatorIn, generatorsIn, noGenerator}
 
-pub generator-at : (rows : List (List ℕ)) (j : ℕ) → getD (generatorsIn rows) j noGenerator ≡ generatorIn (getD rows j [])
+pub generator-at : (rows : List (List ℕ)) (j : ℕ) → getD (generatorsIn rows) j noGenerator ≡ generatorIn
+    (getD rows j [])
 generator-at rows j = List·getD-map generatorIn rows j []
 
 generator-set : (rows : List (List ℕ)) (i : ℕ) (r : List ℕ)

@@ -32,7 +32,8 @@ pub record Inserting (table₀ : List Equation) (e : Equation) (table : List Equ
   pub above : (j : ℕ) → i ≤ j → unknown left j ≡ false
   pub rest : (w : Assignment) → Solves table w → fails left w ≡ fails e w
 
-pub insert-start : (table : List Equation) (e : Equation) (m : ℕ) → ((j : ℕ) → m ≤ j → unknown e j ≡ false) → Inserting table e table e m
+pub insert-start : (table : List Equation) (e : Equation) (m : ℕ) → ((j : ℕ) → m ≤ j → unknown e j ≡ false) → Inserting
+    table e table e m
 insert-start table e m h = record { same = refl; above = h; rest = λ w s. refl }
 
 -- .. seen from another number that is above all unknowns left

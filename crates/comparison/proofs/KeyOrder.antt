@@ -68,7 +68,8 @@ keys-least n c d class-least sign-least = classes (differ-or-not n (λ q. classK
       ),
     ))
 
-    classes : Differs n (λ q. classKey (c q)) (λ q. classKey (d q)) ⊎ Equal n (λ q. classKey (c q)) (λ q. classKey (d q))
+    classes : Differs n (λ q. classKey (c q)) (λ q. classKey (d q)) ⊎ Equal n (λ q. classKey (c q))
+        (λ q. classKey (d q))
         → Agree n c d ⊎ Before n c d
     classes (inl D) = inr (inl (
       D .place,

@@ -111,7 +111,8 @@ module _ (e : Equation) where
 
           pub bound-a : bit (e .b) (s - 1) ≡ false → Bound e (4 * (s - 1) + 1)
           bound-a no-b = bound-at 0 (lit< tt)
-              (first-of (bit (e .a) (s - 1)) _ _ _ (sym (all-bit (s - 1)) ∙ S .last (omega (arith, more))) no-b no-c no-d) go
+              (first-of (bit (e .a) (s - 1)) _ _ _ (sym (all-bit (s - 1)) ∙ S .last (omega (arith, more))) no-b no-c
+              no-d) go
             where
               first-of : (a b c d : Bool) → ((a || b) || (c || d)) ≡ true → b ≡ false → c ≡ false → d ≡ false → a ≡ true
               first-of true b c d h eb ec ed = refl

@@ -1,4 +1,5 @@
--- A choice that is settled at every vertex is the least that works; what happens outside a vertex's part does not matter;
+-- A choice that is settled at every vertex is the least that works; what happens outside a vertex's part does not
+-- matter;
 -- and the least choice of a part, in its numbers, settles its vertices.
 use mathlib.Core.Bool.{Bool, false, true, true≢false}
 use mathlib.Core.Logic.{inl, inr, _⊎_}

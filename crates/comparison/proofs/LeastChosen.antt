@@ -68,7 +68,8 @@ classes-begin n table =
     }
 
 module _ (n : ℕ) (few : n ≤ 64) (table : List Equation) (T : Triangular table)
-    (E : Extendable (classAssignment n) classKey 1 n table) (q : ℕ) (choice : List ℕ) (C : ClassesChosen n table q choice)
+    (E : Extendable (classAssignment n) classKey 1 n table) (q : ℕ) (choice : List ℕ)
+    (C : ClassesChosen n table q choice)
     (inside : q < n) (v : ℕ) (F : FirstFit (classAssignment n) table q (λ u. codesOf (withClass choice q u)) 6 v) where
   fits : q < length choice
   fits = subst (λ m. q < m) (sym (C .long)) (lt-of-lt-of-le inside few)

@@ -57,7 +57,8 @@ module _ (table : List Equation) (q : ℕ) (w : Assignment) where
 pub row-at : (rows : List (List ℕ)) (i : ℕ) → equationAt (equationsIn rows) i ≡ equationOf (getD rows i [])
 row-at rows i = List·getD-map equationOf rows i []
 
-pub row-set : (rows : List (List ℕ)) (i : ℕ) (r : List ℕ) → equationsIn (set rows i r) ≡ set (equationsIn rows) i (equationOf r)
+pub row-set : (rows : List (List ℕ)) (i : ℕ) (r : List ℕ) → equationsIn (set rows i r) ≡ set (equationsIn rows) i
+    (equationOf r)
 row-set [] i r = refl
 row-set (x ∷ rows) zero r = refl
 row-set (x ∷ rows) (suc i) r = ap (λ t. equationOf x ∷ t) (row-set rows i r)

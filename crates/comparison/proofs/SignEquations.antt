@@ -103,7 +103,8 @@ asked : (n : ℕ) (g : Generator) (s : Bool) (k : ℕ → Clifford)
     → fails (signEquation g s) (signAssignment n k) ≡ fails (signEquation g false) (signAssignment n k) ⊕ s
 unfolding fails signAssignment bit
 asked n g s k =
-    ap (λ b. (dot (g .x) (wordOf n (λ q. k q .sx)) ⊕ dot (g .z) (wordOf n (λ q. k q .sz))) ⊕ (b ⊕ dot 0 0)) (dot-digit s 1 refl)
+    ap (λ b. (dot (g .x) (wordOf n (λ q. k q .sx)) ⊕ dot (g .z) (wordOf n (λ q. k q .sz))) ⊕ (b ⊕ dot 0 0))
+    (dot-digit s 1 refl)
     ∙ bits 4 (λ a b c s. (a ⊕ b) ⊕ (s ⊕ c)) (λ a b c s. ((a ⊕ b) ⊕ (false ⊕ c)) ⊕ s) tt
     (dot (g .x) (wordOf n (λ q. k q .sx))) (dot (g .z) (wordOf n (λ q. k q .sz))) (dot 0 0) s
     ∙ ap (λ b. ((dot (g .x) (wordOf n (λ q. k q .sx)) ⊕ dot (g .z) (wordOf n (λ q. k q .sz))) ⊕ (b ⊕ dot 0 0)) ⊕ s)

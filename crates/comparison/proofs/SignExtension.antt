@@ -1,4 +1,5 @@
--- For classes that send each generator into the second group up to a sign, the sign equations have a common solution, so
+-- For classes that send each generator into the second group up to a sign, the sign equations have a common solution,
+-- so
 -- their table is exact: signs that satisfy the equations of the first qubits extend to a solution, and what solves all
 -- works.
 use mathlib.Core.Bool.{_&&_, Bool, Bool·beq, and-comm, and-false, false, not, true}
@@ -64,7 +65,8 @@ module _ (n : ℕ) (first second : List Generator) (frame : List ℕ) (S : Setti
       Image j = act n (λ q. withoutSigns (c q)) (generatorsOf first j)
 
       -- ---- which images are to change their sign
-      abbrev which : (p : Pauli) → InGroup n n (generatorsOf second) p ⊎ InGroup n n (generatorsOf second) (scaled i² p) → Bool
+      abbrev which : (p : Pauli) → InGroup n n (generatorsOf second) p ⊎ InGroup n n (generatorsOf second) (scaled i² p)
+          → Bool
       which p (inl a) = false
       which p (inr a) = true
 
@@ -221,7 +223,8 @@ module _ (n : ℕ) (first second : List Generator) (frame : List ℕ) (S : Setti
       abbrev signsFor : Assignment → ℕ → Clifford
       signsFor w q = record { class = XZ; sx = bit (w .a) q; sz = bit (w .b) q }
 
-      signs-solve : (w : Assignment) → bit (w .c) 0 ≡ true → Solves table w → Solves table (signAssignment n (signsFor w))
+      signs-solve : (w : Assignment) → bit (w .c) 0 ≡ true → Solves table w → Solves table
+          (signAssignment n (signsFor w))
       unfolding signAssignment
       signs-solve w one s = T .0 .kept (signAssignment n (signsFor w)) (λ e a. go e (a .0) (a .1) (a .2))
         where
@@ -275,7 +278,8 @@ module _ (n : ℕ) (first second : List Generator) (frame : List ℕ) (S : Setti
           (sym (sign-sends n (generatorsOf first) (generatorsOf second) (S .proper) proper d j l (gen j) refl c hc
           (F .sent) (F .element) (F .image) (F .same-z) (F .same-x)
           (sym (fails-below (signEquation (gen j) (F .sent .minus ⊕ F .element .minus)) n
-          (sign-short n (gen j) (F .sent .minus ⊕ F .element .minus) (some l) (S .proper .within j l)) (R .0) (signAssignment n d) (R .1))
+          (sign-short n (gen j) (F .sent .minus ⊕ F .element .minus) (some l) (S .proper .within j l)) (R .0)
+          (signAssignment n d) (R .1))
           ∙ ap (λ e. fails e (R .0)) (sym (F .is)) ∙ T .0 .asks (R .0) (R .2) (T .1 j l .0) (j, l, F)))) (F .inside)
         where
           F : SignFor n first second c j (T .1 j l .0)
@@ -289,5 +293,6 @@ module _ (n : ℕ) (first second : List Generator) (frame : List ℕ) (S : Setti
           → ((q : ℕ) → q < n → classKey (d q) ≡ classKey (c q)) → Solves table (signAssignment n d)
       signs-kept d C hc =
           T .0 .kept (signAssignment n d) (λ e a. ap (λ f. fails f (signAssignment n d)) (a .2 .is)
-          ∙ sign-equation n (generatorsOf first) (generatorsOf second) (S .proper) proper d C (a .0) (a .1) (gen (a .0)) refl
+          ∙ sign-equation n (generatorsOf first) (generatorsOf second) (S .proper) proper d C (a .0) (a .1) (gen (a .0))
+          refl
           c hc (a .2 .sent) (a .2 .element) (a .2 .image) (a .2 .inside) (a .2 .same-z) (a .2 .same-x))

@@ -77,7 +77,8 @@ table-ends A m table T short =
         → equationAt table i ≡ emptyEquation
     go i l (inr p) = p
     go i l (inl t) =
-        absurd (true≢false (sym t ∙ sym (reads (equationAt table i)) ∙ T .kept (changed (i % 4) (i / 4) zeroAssignment) (λ e a. reads e ∙ short e a i l) i))
+        absurd (true≢false (sym t ∙ sym (reads (equationAt table i)) ∙ T .kept (changed (i % 4) (i / 4) zeroAssignment)
+        (λ e a. reads e ∙ short e a i l) i))
       where
         reads : (e : Equation) → fails e (changed (i % 4) (i / 4) zeroAssignment) ≡ unknown e i
         reads e =
@@ -91,7 +92,8 @@ module _ (n : ℕ) (first second : List Generator) (frame : List ℕ) (S : Setti
       short : (e : Equation) (s t : ℕ) → (s < n) ⊎ ((s ≡ n) × (t < 0))
           → e ≡ classEquation (getD first s noGenerator) (getD second t noGenerator) → Short n e
       short e s t (inl l) h =
-          subst (Short n) (sym h) (class-short n (getD first s noGenerator) (getD second t noGenerator) (S .proper .within s l))
+          subst (Short n) (sym h) (class-short n (getD first s noGenerator) (getD second t noGenerator)
+          (S .proper .within s l))
       short e s t (inr p) h = absurd (not-suc-le-zero (p .1))
 
   pub sign-ends : (c : ℕ → Clifford) → SignTable n first second c n table → EmptyFrom (4 * n) table
@@ -103,4 +105,5 @@ module _ (n : ℕ) (first second : List Generator) (frame : List ℕ) (S : Setti
       short : (e : Equation) → SignAsked n first second c n e → Short n e
       short e (j, l, F) =
           subst (Short n) (sym (F .is))
-          (sign-short n (getD first j noGenerator) (F .sent .minus ⊕ F .element .minus) (some l) (S .proper .within j l))
+          (sign-short n (getD first j noGenerator) (F .sent .minus ⊕ F .element .minus) (some l)
+          (S .proper .within j l))

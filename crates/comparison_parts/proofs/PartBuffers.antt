@@ -72,7 +72,8 @@ module _ (n : ℕ) (nb cs : List ℕ) (s : Word) (k : ℕ) (at : List ℕ) (N : 
   small : Simple k (partGraph k e (graphIn nb))
   small = part-simple n s k e N (graphIn nb) (S .simple) C
 
-  pub words-connected : ((i j : ℕ) → i < k → j < k → partOf n (graphIn nb) (e i) (e j) ≡ true) → Connected k (graphIn words)
+  pub words-connected : ((i j : ℕ) → i < k → j < k → partOf n (graphIn nb) (e i) (e j) ≡ true) → Connected k
+      (graphIn words)
   words-connected t = subst (Connected k) (sym graph-is) (part-connected n (graphIn nb) s k e N C t)
 
   pub part-sound : SoundRecord k words numbers
@@ -87,7 +88,8 @@ module _ (n : ℕ) (nb cs : List ℕ) (s : Word) (k : ℕ) (at : List ℕ) (N : 
       code : (i : ℕ) → (i < k) ⊎ (k ≤ i) → getD numbers i 0 < 24
       code i (inl l) = subst (λ v. v < 24) (sym (numbers-at i l)) (S .codes-sound (e i))
       code i (inr l) =
-          subst (λ v. v < 24) (sym (ap (λ v. getD v i 0) en ∙ table-past k (λ i. getD cs (getD at i 0) 0) i l)) (lit< tt)
+          subst (λ v. v < 24) (sym (ap (λ v. getD v i 0) en ∙ table-past k (λ i. getD cs (getD at i 0) 0) i l))
+          (lit< tt)
 
   pub part-rows-proper : Proper k (rowsOf k (partOfRecord k at (recordHeld n nb cs)))
   part-rows-proper = record-proper k (partOfRecord k at (recordHeld n nb cs)) small
@@ -95,7 +97,8 @@ module _ (n : ℕ) (nb cs : List ℕ) (s : Word) (k : ℕ) (at : List ℕ) (N : 
   pub held-proper : Proper k (heldGenerators k words numbers)
   held-proper = record-proper k (recordHeld k words numbers) (part-sound .simple)
 
-  pub part-rows : (i : ℕ) → i < k → heldGenerators k words numbers i ≡ rowsOf k (partOfRecord k at (recordHeld n nb cs)) i
+  pub part-rows : (i : ℕ) → i < k → heldGenerators k words numbers i ≡ rowsOf k (partOfRecord k at (recordHeld n nb cs))
+      i
   part-rows i l =
       ap (λ θ. act k (codesOf numbers) (graphGenerator θ i)) graph-is
       ∙ act-within k (codesOf numbers) (λ j. codesOf cs (e j))
@@ -118,7 +121,8 @@ module _ (n : ℕ) (nb cs nb₂ cs₂ : List ℕ) (component k : ℕ) (at : List
 
   pub first-connected : Connected k (graphIn words)
   first-connected =
-      words-connected n nb cs (bit component) k at (G .numbers) (G .pair .first) (G .closed) words numbers ew en (G .together)
+      words-connected n nb cs (bit component) k at (G .numbers) (G .pair .first) (G .closed) words numbers ew en
+      (G .together)
 
   pub part-answered : (found : Bool) (choice : List ℕ)
       → LeastAnswer k (heldGenerators k words numbers) (heldGenerators k words₂ numbers₂) found choice
@@ -129,7 +133,8 @@ module _ (n : ℕ) (nb cs nb₂ cs₂ : List ℕ) (component k : ℕ) (at : List
       (held-proper n nb cs (bit component) k at (G .numbers) (G .pair .first) (G .closed) words numbers ew en)
       (part-rows-proper n nb cs (bit component) k at (G .numbers) (G .pair .first) (G .closed) words numbers ew en)
       (held-proper n nb₂ cs₂ (bit component) k at (G .numbers) (G .pair .second) (G .closed₂) words₂ numbers₂ ew₂ en₂)
-      (part-rows-proper n nb₂ cs₂ (bit component) k at (G .numbers) (G .pair .second) (G .closed₂) words₂ numbers₂ ew₂ en₂)
+      (part-rows-proper n nb₂ cs₂ (bit component) k at (G .numbers) (G .pair .second) (G .closed₂) words₂ numbers₂ ew₂
+      en₂)
       (same-rows k k _ _ _
       (part-rows n nb cs (bit component) k at (G .numbers) (G .pair .first) (G .closed) words numbers ew en) same-refl)
       (same-rows k k _ _ _

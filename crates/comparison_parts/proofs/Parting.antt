@@ -33,7 +33,13 @@ use Rattle.words.proofs.Trailing.{trailing-set}
 use Rattle.words.specs.Bits.{bit, _⊕_}
 use Rattle.words.specs.Search.{IsFirst}
 use Rattle.comparison_parts.proofs.ComponentLaws.{component-closed}
-use Rattle.comparison_parts.specs.internal.Components.{Component, ComponentAnswer, Progress, SoundPair, recordHeld}
+use Rattle.comparison_parts.specs.internal.Components.{
+  Component,
+  ComponentAnswer,
+  Progress,
+  SoundPair,
+  recordHeld,
+}
 
 module _ (n : ℕ) (nb cs nb₂ cs₂ : List ℕ) (P : SoundPair n nb cs nb₂ cs₂) where
   abbrev r : GraphRecord
@@ -146,7 +152,8 @@ module _ (n : ℕ) (nb cs nb₂ cs₂ : List ℕ) (P : SoundPair n nb cs nb₂ c
               outside u v l m a b =
                   never-true (bit component v) (λ h. true≢false (sym (inside v m h) ∙ not-true (bit rest v)
                   (part-within n (graphIn nb) (λ x. not (bit rest x))
-                  (rest-closed n (graphIn nb) (P .first .simple .symmetric) (bit rest) (G .closed)) u v l m (ap not a) b)))
+                  (rest-closed n (graphIn nb) (P .first .simple .symmetric) (bit rest) (G .closed)) u v l m (ap not a)
+                  b)))
 
               go : (u : ℕ) → u < n → (x : Bool) → bit rest u ≡ x → (y : Bool) → bit component u ≡ y
                   → (bit rest u && not (bit component u)) ≡ false → LeastAt n r t (codesOf new) u

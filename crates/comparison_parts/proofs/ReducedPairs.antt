@@ -146,7 +146,8 @@ accepted-pair n nb cs nb₂ cs₂ A B =
 module _ (limited : Bool) (n : ℕ) (nb cs nb₂ cs₂ : List ℕ)
     (A : AcceptedRecord (lentRecord n nb cs))
     (B : AcceptedRecord (lentRecord n nb₂ cs₂))
-    (small : (limited && (partAbove 20 n (graphIn nb) || partAbove 20 n (graphIn nb₂))) ≡ false) (found : Bool) (array : List ℕ)
+    (small : (limited && (partAbove 20 n (graphIn nb) || partAbove 20 n (graphIn nb₂))) ≡ false) (found : Bool)
+    (array : List ℕ)
     (L : LeastAnswer n (heldGenerators n nb cs) (heldGenerators n nb₂ cs₂) found array) where
   -- the codes of a choice found
   pub chosen-codes : found ≡ true → (choice : List ℕ) → choice ≡ tabulate n (λ q. getD array q 0)
@@ -174,7 +175,8 @@ module _ (limited : Bool) (n : ℕ) (nb cs nb₂ cs₂ : List ℕ)
         PairAnswered limited n R S choice list count 13 choice list count
     pair-refused choice list count f =
         record {
-          number = sym (limit-passed limited _ _ no-large ∙ fits 13 _ (not-false (noChoice n R S) (sym (lists-answer .whether) ∙ f)));
+          number = sym (limit-passed limited _ _ no-large ∙ fits 13 _
+              (not-false (noChoice n R S) (sym (lists-answer .whether) ∙ f)));
           codes = refl;
           vertices = refl;
           amount = refl;

@@ -94,7 +94,8 @@ module _ (n : ℕ) (θ : Graph) (S : Simple n θ) (q : ℕ) (l : q < n) where
     pub next-below : next < 2 ^ n
     next-below = lt-of-bits n next (λ j k. G .step j
         ∙ ap₂ _||_ (bit-above n reached (G .below) j k)
-        (some-none n (λ i. bit reached i && θ i j) (λ i m. ap (λ b. bit reached i && b) (S .below i j k) ∙ and-false (bit reached i))))
+        (some-none n (λ i. bit reached i && θ i j) (λ i m. ap (λ b. bit reached i && b) (S .below i j k) ∙ and-false
+        (bit reached i))))
 
     -- as numbers the reached words rise
     pub next-above : (next ≡ reached → ⊥) → reached < next
@@ -121,7 +122,8 @@ module _ (n : ℕ) (θ : Graph) (S : Simple n θ) (q : ℕ) (l : q < n) where
         record {
           has = kept q (G .has);
           below = next-below;
-          inside = λ t k a. go t k (either (bit reached t) (some n (λ i. bit reached i && θ i t)) (sym (G .step t) ∙ a));
+          inside = λ t k a. go t k (either (bit reached t) (some n (λ i. bit reached i && θ i t))
+              (sym (G .step t) ∙ a));
           step = step;
         }
       where

@@ -4,7 +4,7 @@ use words::put_bit;
 ghost use Prim.Native.Nat.{_<_};
 ghost use Rattle.comparison.specs.internal.Places.{Placed, SignsPlaced};
 
-// The four words with the four bits of qubit q exchanged.
+// The four words with the four bits of qubit q replaced.
 pub fn place(w: [u64; 4], q: usize, four: u64) -> [u64; 4]
     requires { ⌜ q < 64 ⌝ }
     ensures { λ r. ⌜ Placed w r q four ⌝ }

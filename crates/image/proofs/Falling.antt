@@ -22,7 +22,8 @@ module _ (S : State) (v : ℕ) where
   unfolding complementedAt
   C-after p q = ap (put (S .C) v) (ap₂ _⊕_ p q)
 
-  pub D-neighbour : (u : ℕ) {c d : Bool} → S .graph v u ≡ true → S .C u ≡ c → S .D u ≡ d → (complementedAt S v) .D u ≡ c ⊕ d
+  pub D-neighbour : (u : ℕ) {c d : Bool} → S .graph v u ≡ true → S .C u ≡ c → S .D u ≡ d → (complementedAt S v) .D u ≡ c
+      ⊕ d
   unfolding complementedAt
   D-neighbour u e p q = ap (λ b. cond b (S .C u ⊕ S .D u) (S .D u)) e ∙ ap₂ _⊕_ p q
 

@@ -61,7 +61,8 @@ some-word n w f same above = go (first-is n f)
 
 module _ (n : ℕ) (r : GraphRecord) (G : Simple n (r .graph)) (w : Working)
     (held : workingRecord w ≡ imageRecord n r)
-    (T : Tracking n w) (k : Action) (A : ActsAs (codesOf (w .codes)) k) (b-below : k .b < 2 ^ 64) (sz-below : k .sz < 2 ^ 64)
+    (T : Tracking n w) (k : Action) (A : ActsAs (codesOf (w .codes)) k) (b-below : k .b < 2 ^ 64)
+    (sz-below : k .sz < 2 ^ 64)
   where
     long : length (w .codes) ≡ n
     long = tracked-codes n w T
@@ -97,7 +98,8 @@ module _ (n : ℕ) (r : GraphRecord) (G : Simple n (r .graph)) (w : Working)
         go false false = refl
 
     pub number-word : cond (eqb (w .c) 0) (cond (eqb (bitAnd (k .b) (k .d)) 0) 0 12) 11 ≡ firstFitting (loopLines n r)
-    number-word = sym (by-lines (stuck n r) (looped n r) (eqb (w .c) 0) (eqb (bitAnd (k .b) (k .d)) 0) stuck-word looped-word)
+    number-word = sym (by-lines (stuck n r) (looped n r) (eqb (w .c) 0) (eqb (bitAnd (k .b) (k .d)) 0) stuck-word
+        looped-word)
 
     word-below : (j : ℕ) → getD (w .neighbours) j 0 < 2 ^ n
     word-below j = lt-of-bits n (getD (w .neighbours) j 0) (tracked-simple n w T .below j)

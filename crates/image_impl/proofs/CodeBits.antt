@@ -1,4 +1,5 @@
--- The words of the bits C and D of a record's codes, by a loop over the vertices; and the state at the start of the rule.
+-- The words of the bits C and D of a record's codes, by a loop over the vertices; and the state at the start of the
+-- rule.
 use mathlib.Core.Bool.{_&&_, Bool, false, true}
 use mathlib.Core.List.{List}
 use mathlib.Core.Logic.{inl, inr}

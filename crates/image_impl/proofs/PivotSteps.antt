@@ -26,12 +26,14 @@ use Rattle.image_impl.specs.internal.Working.{Complemented, Tracking, Wo
 
 -- ---- how 11 and 2 change the bits
 pivot-C : (J K a b : Bool) (c : Clifford) → bitC (pivotedCode J K a b c) ≡ bitC c ⊕ ((bitC c ⊕ bitD c) && (J || K))
-pivot-C J K a b = onClifford _ (λ p q r s t. bits 9 (λ J K a b p q r s t. bitC (pivotedCode J K a b (fromFive p q r s t)))
+pivot-C J K a b = onClifford _ (λ p q r s t. bits 9 (λ J K a b p q r s t. bitC
+    (pivotedCode J K a b (fromFive p q r s t)))
     (λ J K a b p q r s t. bitC (fromFive p q r s t)
     ⊕ ((bitC (fromFive p q r s t) ⊕ bitD (fromFive p q r s t)) && (J || K))) tt J K a b p q r s t)
 
 pivot-D : (J K a b : Bool) (c : Clifford) → bitD (pivotedCode J K a b c) ≡ bitD c ⊕ ((bitC c ⊕ bitD c) && (J || K))
-pivot-D J K a b = onClifford _ (λ p q r s t. bits 9 (λ J K a b p q r s t. bitD (pivotedCode J K a b (fromFive p q r s t)))
+pivot-D J K a b = onClifford _ (λ p q r s t. bits 9 (λ J K a b p q r s t. bitD
+    (pivotedCode J K a b (fromFive p q r s t)))
     (λ J K a b p q r s t. bitD (fromFive p q r s t)
     ⊕ ((bitC (fromFive p q r s t) ⊕ bitD (fromFive p q r s t)) && (J || K))) tt J K a b p q r s t)
 
@@ -77,7 +79,8 @@ module _ (n : ℕ) (w : Working) (T : Tracking n w) (j k : ℕ) (hj : j < n) (hk
       (bit-or s t q ∙ ap₂ _||_ (ap (λ v. bit v q) es ∙ bit-single j q) (ap (λ v. bit v q) et ∙ bit-single k q))
       ∙ within (lt-or-ge q n)
     where
-      within : (q < n) ⊎ (n ≤ q) → ((bit (w .c) q ⊕ bit (w .d) q) && ends q) ≡ ((bitC (code q) ⊕ bitD (code q)) && ends q)
+      within : (q < n) ⊎ (n ≤ q) → ((bit (w .c) q ⊕ bit (w .d) q) && ends q) ≡
+          ((bitC (code q) ⊕ bitD (code q)) && ends q)
       within (inl l) = ap₂ (λ u v. (u ⊕ v) && ends q) (T .C q) (T .D q l)
       within (inr l) =
           let none : ends q ≡ false = ap₂ _||_ (other-place {i = q} {j = j} (λ e. absurd (omega (arith, e, hj, l))))
@@ -135,9 +138,11 @@ module _ (n : ℕ) (w : Working) (T : Tracking n w) (j k : ℕ) (hj : j < n) (hk
           count = refl;
           tracking =
               record {
-                long = pivoted-length (w .neighbours) (w .codes) (T .unrefused) j k (inside hj) (inside hk) words codes R
+                long = pivoted-length (w .neighbours) (w .codes) (T .unrefused) j k (inside hj) (inside hk) words codes
+                    R
                     ∙ T .long;
-                unrefused = pivoted-unrefused (w .neighbours) (w .codes) (T .unrefused) j k (inside hj) (inside hk) words
+                unrefused = pivoted-unrefused (w .neighbours) (w .codes) (T .unrefused) j k (inside hj) (inside hk)
+                    words
                     codes R;
                 C = C-after;
                 D = D-after;

@@ -11,7 +11,11 @@ use lib.Dec.{eqb}
 use lib.ListN.{getD, length, length-set, set, take}
 use lib.Seq.{take-suc-set}
 use Rattle.operations.specs.internal.InPlace.{Rewritten}
-use Rattle.operations_rewriting.proofs.ComplementedRecords.{complemented-held, complemented-length, complemented-unrefused}
+use Rattle.operations_rewriting.proofs.ComplementedRecords.{
+  complemented-held,
+  complemented-length,
+  complemented-unrefused,
+}
 use Rattle.record.specs.Records.{complementRecord}
 use Rattle.words.proofs.BitLaws.{bit-and, bit-single, bit-xor}
 use Rattle.words.proofs.Finite.{bits, ⊕-zero}

@@ -9,7 +9,8 @@ use Rattle.image_impl.specs.internal.Working.{Tracking, Working}
 
 pub tracked-simple : (n : ℕ) (w : Working) → Tracking n w → Simple n (graphIn (w .neighbours))
 tracked-simple n w T =
-    subst (λ m. Simple m (graphIn (w .neighbours))) (T .long) (unrefused-simple (w .neighbours) (w .codes) (T .unrefused))
+    subst (λ m. Simple m (graphIn (w .neighbours))) (T .long)
+    (unrefused-simple (w .neighbours) (w .codes) (T .unrefused))
 
 pub tracked-small : (n : ℕ) (w : Working) → Tracking n w → n ≤ 64
 tracked-small n w T = subst (λ m. m ≤ 64) (T .long) (unrefused-short (w .neighbours) (w .codes) (T .unrefused))

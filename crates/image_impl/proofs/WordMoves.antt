@@ -151,7 +151,8 @@ module _ (n : ℕ) (small : n ≤ 64) (w : Working) (T : Tracking n w) where
       to-k : (S .graph j k ≡ true) × (S .C k ≡ true)
       to-k = both-true (S .graph j k) (S .C k) (sym (among-bit j k) ∙ first-k .passes)
 
-      pub word-edge : bit (getD (w .neighbours) j 0) (trailingZeros 64 (bitAnd (getD (w .neighbours) j 0) (w .c))) ≡ true
+      pub word-edge : bit (getD (w .neighbours) j 0) (trailingZeros 64 (bitAnd (getD (w .neighbours) j 0) (w .c))) ≡
+          true
       word-edge = to-k .0
 
       -- a smaller neighbour would itself have been found first

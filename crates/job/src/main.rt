@@ -1,5 +1,5 @@
-// Reads a job from standard input, to its end and in blocks, and prints the answer to it, which `reply` of jobs_replies
-// makes of what was read.
+// Reads a job from standard input, to its end and in blocks, and prints the answer to it, which `job_reply` of
+// jobs_replies makes of what was read.
 use jobs_impl::scanning::Reading;
 use jobs_impl::scanning::read_block;
 use jobs_impl::scanning::unread;

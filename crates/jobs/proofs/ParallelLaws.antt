@@ -68,19 +68,23 @@ module _ (ops a b value : List ℕ) where
           (omega (arith, length-drop from (stepsIn ops a b value), steps-long))
 
 -- zeros
-pub steps-zero : (n : ℕ) → replicate n (numbered 0 0 0 0) ≡ stepsIn (replicate n 0) (replicate n 0) (replicate n 0) (replicate n 0)
-steps-zero n = steps-are (replicate n 0) (replicate n 0) (replicate n 0) (replicate n 0) (replicate n (numbered 0 0 0 0))
+pub steps-zero : (n : ℕ) → replicate n (numbered 0 0 0 0) ≡ stepsIn (replicate n 0) (replicate n 0) (replicate n 0)
+    (replicate n 0)
+steps-zero n = steps-are (replicate n 0) (replicate n 0) (replicate n 0) (replicate n 0)
+    (replicate n (numbered 0 0 0 0))
     (numbered 0 0 0 0) (length-replicate n (numbered 0 0 0 0) ∙ sym (length-replicate n 0))
     (λ k l. let small = subst (λ m. k < m) (length-replicate n 0) l in
     getD-replicate n k (numbered 0 0 0 0) (numbered 0 0 0 0) small
     ∙ sym (ap (λ v. numbered v v v v) (getD-replicate n k 0 0 small)))
 
 -- a step stored
-pub steps-set : (ops a b value : List ℕ) (k o x y z : ℕ) → k < length ops → length a ≡ length ops → length b ≡ length ops
+pub steps-set : (ops a b value : List ℕ) (k o x y z : ℕ) → k < length ops → length a ≡ length ops → length b ≡ length
+    ops
     → length value ≡ length ops
     → set (stepsIn ops a b value) k (numbered o x y z) ≡ stepsIn (set ops k o) (set a k x) (set b k y) (set value k z)
 steps-set ops a b value k o x y z inside ea eb ev =
-    steps-are (set ops k o) (set a k x) (set b k y) (set value k z) (set (stepsIn ops a b value) k (numbered o x y z)) other
+    steps-are (set ops k o) (set a k x) (set b k y) (set value k z) (set (stepsIn ops a b value) k (numbered o x y z))
+    other
     (length-set (stepsIn ops a b value) k (numbered o x y z) ∙ steps-long ops a b value ∙ sym (length-set ops k o))
     (λ j l. go j (subst (λ m. j < m) (length-set ops k o) l) (ℕ-discrete j k))
   where
@@ -91,10 +95,13 @@ steps-set ops a b value k o x y z inside ea eb ev =
         ≡ stepIn (set ops k o) (set a k x) (set b k y) (set value k z) j
     go j l (yes e) = subst (λ j. getD (set (stepsIn ops a b value) k (numbered o x y z)) j other
         ≡ stepIn (set ops k o) (set a k x) (set b k y) (set value k z) j) (sym e)
-        (getD-set-same (stepsIn ops a b value) k (numbered o x y z) other (subst (λ m. k < m) (sym (steps-long ops a b value)) inside)
-        ∙ sym ((λ i. numbered (getD-set-same ops k o 0 inside i) (getD-set-same a k x 0 (subst (λ m. k < m) (sym ea) inside) i)
+        (getD-set-same (stepsIn ops a b value) k (numbered o x y z) other
+        (subst (λ m. k < m) (sym (steps-long ops a b value)) inside)
+        ∙ sym ((λ i. numbered (getD-set-same ops k o 0 inside i)
+        (getD-set-same a k x 0 (subst (λ m. k < m) (sym ea) inside) i)
         (getD-set-same b k y 0 (subst (λ m. k < m) (sym eb) inside) i)
         (getD-set-same value k z 0 (subst (λ m. k < m) (sym ev) inside) i))))
-    go j l (no h) = getD-set-other (stepsIn ops a b value) k j (numbered o x y z) other h ∙ steps-at ops a b value j other l
+    go j l (no h) = getD-set-other (stepsIn ops a b value) k j (numbered o x y z) other h ∙ steps-at ops a b value j
+        other l
         ∙ sym ((λ i. numbered (getD-set-other ops k j o 0 h i) (getD-set-other a k j x 0 h i)
         (getD-set-other b k j y 0 h i) (getD-set-other value k j z 0 h i)))

@@ -60,7 +60,8 @@ expected =
     ∷ []
 
 pub table-examples : given ≡ expected
-unfolding pointText pointTexts tableText digits hexDigit hexText toBits isSupported leading ratio turnsAt every first some fold bit mul isColumnDependent
+unfolding pointText pointTexts tableText digits hexDigit hexText toBits isSupported leading ratio turnsAt every first
+    some fold bit mul isColumnDependent
 table-examples = refl
 
 -- a word of four digits

@@ -114,7 +114,8 @@ module _ (n : ℕ) (u : UsedRecord) (S : Sized n (u .held)) where
 
   request-sized : (r : Request) → firstFitting (requestLines u r) ≡ 0 → Sized n ((requestLeaves u r) .held)
   request-sized (carryOut o) z = used-sized o
-  request-sized (observationOf pauli q b) z = used-sized (measurementOf pauli q (outcomeNumber (measuredAnswer (u .held) pauli q b)))
+  request-sized (observationOf pauli q b) z = used-sized (measurementOf pauli q
+      (outcomeNumber (measuredAnswer (u .held) pauli q b)))
   request-sized (renewalOf q k) z =
       let A = renewed-accepted u q k (renew-passes u q k z) in
       record {
@@ -128,7 +129,8 @@ pub step-sized : (n : ℕ) (u : UsedRecord) → Sized n (u .held) → (s : Step)
 step-sized n u S s = go (ℕ-discrete (numberOf u s) 0)
   where
     go : Dec (numberOf u s ≡ 0) → Sized n (afterStep u s .held)
-    go (yes z) = subst (λ v. Sized n (v .held)) (sym (accepted-leaves u s z)) (request-sized n u S (asked s) (accepted-number u s z))
+    go (yes z) = subst (λ v. Sized n (v .held)) (sym (accepted-leaves u s z))
+        (request-sized n u S (asked s) (accepted-number u s z))
     go (no h) = subst (λ v. Sized n (v .held)) (sym (refused-keeps u s h)) S
 
 pub run-sized : (n : ℕ) (u : UsedRecord) → Sized n (u .held) → (steps : List Step) → Sized n (run u steps .held)

@@ -19,7 +19,17 @@ use Rattle.jobs.specs.Text.{field, StepFits, EachStepFits, stepText, ste
 use Rattle.jobs.specs.Text.{jobText, JobTextOf}
 use Rattle.text.proofs.Feeding.{fed-append, fed-one}
 use Rattle.text.specs.internal.Feeding.{fedBytes}
-use Rattle.jobs.specs.internal.Scan.{asReading, begin, digitValue, headStep, moreStep, oneMore, Reading, scanByte, stored}
+use Rattle.jobs.specs.internal.Scan.{
+  asReading,
+  begin,
+  digitValue,
+  headStep,
+  moreStep,
+  oneMore,
+  Reading,
+  scanByte,
+  stored,
+}
 use Rattle.jobs.specs.internal.Scan.{feedNext, feed, fed, StepsKept}
 use Rattle.jobs.specs.declared.scan.Field.the-variants.{N, Value}
 use Rattle.jobs.specs.declared.scan.Place.the-variants.{Head, Word, First, More}

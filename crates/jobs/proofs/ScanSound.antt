@@ -50,16 +50,19 @@ stays-in-texts (Word k) s b e =
     by-test (λ r. inTexts (r .op) ≡ true) (ltb k 11 && eqb b (getD (letters o) k 0))
     (withOp s o (cond (eqb b 32) (First A) (Word (k + 1)))) (moved s Broken) (λ _. next-in-texts k (s .op) b e) (λ _. e)
 stays-in-texts (First f) s b e =
-    by-test (λ r. inTexts (r .op) ≡ true) (ltb (digitValue b) 10) (withNumber s (digitValue b) (More f)) (moved s Broken)
+    by-test (λ r. inTexts (r .op) ≡ true) (ltb (digitValue b) 10) (withNumber s (digitValue b) (More f))
+    (moved s Broken)
     (λ _. e) (λ _. e)
 stays-in-texts (More f) s b e =
     let read = withNumber s (s .number * 10 + digitValue b) (More f) in
     by-test (λ r. inTexts (r .op) ≡ true) (ltb (digitValue b) 10)
     (cond (ltb 0 (s .number) && ltb (s .number) 100) read (moved s Broken))
     (cond (eqb b (separator f)) (ended f s) (moved s Broken))
-    (λ _. by-test (λ r. inTexts (r .op) ≡ true) (ltb 0 (s .number) && ltb (s .number) 100) read (moved s Broken) (λ _. e)
+    (λ _. by-test (λ r. inTexts (r .op) ≡ true) (ltb 0 (s .number) && ltb (s .number) 100) read (moved s Broken)
+    (λ _. e)
     (λ _. e))
-    (λ _. by-test (λ r. inTexts (r .op) ≡ true) (eqb b (separator f)) (ended f s) (moved s Broken) (λ _. kept f) (λ _. e))
+    (λ _. by-test (λ r. inTexts (r .op) ≡ true) (eqb b (separator f)) (ended f s) (moved s Broken) (λ _. kept f)
+    (λ _. e))
   where
     kept : (f : Field) → inTexts ((ended f s) .op) ≡ true
     kept N = e

@@ -14,7 +14,17 @@ use Rattle.words.proofs.Flags.{by-test}
 use Rattle.jobs.specs.Text.{field, inTexts, opWord, StepFits, stepText}
 use Rattle.text.proofs.Feeding.{fed-append, fed-one}
 use Rattle.text.specs.internal.Feeding.{fedBytes}
-use Rattle.jobs.specs.internal.Scan.{digitValue, firstOp, firstStep, moreStep, oneMore, opFor, Reading, scanByte, wordStep}
+use Rattle.jobs.specs.internal.Scan.{
+  digitValue,
+  firstOp,
+  firstStep,
+  moreStep,
+  oneMore,
+  opFor,
+  Reading,
+  scanByte,
+  wordStep,
+}
 use Rattle.jobs.specs.internal.Scan.{asReading, feedNext, feed, fed}
 use Rattle.jobs.specs.declared.scan.Field.{Field}
 use Rattle.jobs.specs.declared.scan.Field.the-variants.{A, B, Value}

@@ -29,7 +29,8 @@ step-qubits u s = go (requestLeaves u (asked s)) (eqb (numberOf u s) 0) (request
     operation-qubits : (o : Operation) → (usedStep u o) .after .held .n ≡ u .held .n
     operation-qubits o = kept (eqb ((usedStep u o) .number) 0)
       where
-        kept : (c : Bool) → (cond c (record { held = leaves (u .held) o; used = usedAfter u o }) u) .held .n ≡ u .held .n
+        kept : (c : Bool) → (cond c (record { held = leaves (u .held) o; used = usedAfter u o }) u) .held .n ≡
+            u .held .n
         kept true = refl
         kept false = refl
 

@@ -11,7 +11,17 @@ use Rattle.jobs.specs.declared.Op.the-variants.{Gate, Cz, Measure, Compl
 use Rattle.jobs.specs.declared.Step.{Step}
 use Rattle.text.proofs.DigitLaws.{readDecimal}
 use Rattle.text.specs.Text.{space, newline}
-use Rattle.jobs.specs.Text.{field, inTexts, opWord, StepFits, EachStepFits, stepText, stepsText, qubitsLine, stepNames}
+use Rattle.jobs.specs.Text.{
+  field,
+  inTexts,
+  opWord,
+  StepFits,
+  EachStepFits,
+  stepText,
+  stepsText,
+  qubitsLine,
+  stepNames,
+}
 use Rattle.jobs.specs.Text.{jobHead, jobText, JobTextOf}
 use Rattle.jobs.specs.internal.Scan.{firstOp, opFor}
 use Rattle.text.proofs.NumeralLaws.{digits-back}

@@ -71,7 +71,8 @@ fields-refuse u Observe a b v e =
     (drop 5 (argumentLines (u .held) (v / 2 + 1) a (v % 2)))
     (ap (λ c. c || not (eqb b 0)) (measure-six v) ∙ swapped (not (eqb b 0)) (leb 6 v) e)
 fields-refuse u Renew a b v e =
-    with-six-after u (not (usedCode v)) (not (eqb b 0)) (drop 5 (renewLines u a v)) (six (not (eqb b 0)) (lt-or-ge v 12) e)
+    with-six-after u (not (usedCode v)) (not (eqb b 0)) (drop 5 (renewLines u a v))
+    (six (not (eqb b 0)) (lt-or-ge v 12) e)
   where
     six : (t : Bool) → (v < 12) ⊎ (12 ≤ v) → (t || leb 12 v) ≡ true → (not (usedCode v) || t) ≡ true
     six true h e = or-true (not (usedCode v))

@@ -8,7 +8,8 @@ use Rattle.jobs.specs.declared.Op.{Op}
 use Rattle.jobs.specs.declared.Op.the-variants.{Complement, Cz, Gate, Measure, Observe, Pivot, Renew}
 use Rattle.jobs.specs.declared.Step.{Step}
 
--- the operation of a number: 0 gate, 1 cz, 2 measure, 3 complement, 4 pivot, 5 observe, 6 renew; where numbers above 6 are
+-- the operation of a number: 0 gate, 1 cz, 2 measure, 3 complement, 4 pivot, 5 observe, 6 renew; where numbers above 6
+-- are
 -- not refused, they are a renewal's
 unfoldable pub numberedOp : ℕ → Op
 numberedOp k =

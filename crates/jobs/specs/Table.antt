@@ -13,7 +13,8 @@ plotNames = 121 ∷ 32 ∷ 114 ∷ 101 ∷ 32 ∷ 105 ∷ 109 ∷ 32 ∷ 112 ∷
 abbrev pub floatText : Float → List ℕ
 floatText v = hexText 16 (toBits binary64 v)
 
--- "y in decimal and the three floats' bits as 16 hexadecimal digits each"; the layout is that of `reduce`: "fields parted
+-- "y in decimal and the three floats' bits as 16 hexadecimal digits each"; the layout is that of `reduce`: "fields
+-- parted
 -- by one space, every line ended by a newline"
 unfoldable pub pointText : ℕ → PlotLine → List ℕ
 pointText y l =

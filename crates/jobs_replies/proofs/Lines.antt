@@ -26,30 +26,32 @@ module _ (results : ℕ → Result) (first before : List ℕ) (from : ℕ) (spac
 
   -- all of them, behind the names
   pub all-lines : (count k : ℕ) (out : List ℕ) (at : ℕ) → k ≤ count → count ≤ k
-      → Printed (resultLines k results) from before out at → Printed (resultNames ++ resultLines count results) 0 first out at
+      → Printed (resultLines k results) from before out at → Printed (resultNames ++ resultLines count results) 0 first
+      out at
   all-lines count k out at few end P = and-then (omega arith) names
       (subst (λ m. Printed (resultLines m results) from before out at) (same k few end) P)
     where
       same : (k : ℕ) → k ≤ count → count ≤ k → k ≡ count
       same k a b = omega (arith, a, b)
 
-  module _ (k : ℕ) (more : k < 4096) (out : List ℕ) (at : ℕ) (P : Printed (resultLines k results) from before out at) where
-    fits : from + length (resultLines k results) ≤ length before
-    fits = omega (arith, length-results k results, names-room first before from space names)
+  module _ (k : ℕ) (more : k < 4096) (out : List ℕ) (at : ℕ) (P : Printed (resultLines k results) from before out at)
+    where
+      fits : from + length (resultLines k results) ≤ length before
+      fits = omega (arith, length-results k results, names-room first before from space names)
 
-    -- there is room for a line more
-    pub line-fits : at + 14 ≤ length out
-    line-fits =
-        omega (
-          arith,
-          length-results k results,
-          names-room first before from space names,
-          P .end,
-          ap length (P .out) ∙ length-written before from (resultLines k results) fits,
-        )
+      -- there is room for a line more
+      pub line-fits : at + 14 ≤ length out
+      line-fits =
+          omega (
+            arith,
+            length-results k results,
+            names-room first before from space names,
+            P .end,
+            ap length (P .out) ∙ length-written before from (resultLines k results) fits,
+          )
 
-    -- a line more
-    pub one-line : (out′ : List ℕ) (at′ : ℕ) → Printed (resultLine k (results k)) at out out′ at′
-        → Printed (resultLines (k + 1) results) from before out′ at′
-    one-line out′ at′ L =
-        subst (λ t. Printed t from before out′ at′) (results-more k results) (and-then fits P L)
+      -- a line more
+      pub one-line : (out′ : List ℕ) (at′ : ℕ) → Printed (resultLine k (results k)) at out out′ at′
+          → Printed (resultLines (k + 1) results) from before out′ at′
+      one-line out′ at′ L =
+          subst (λ t. Printed t from before out′ at′) (results-more k results) (and-then fits P L)

@@ -99,7 +99,8 @@ module _ (l : GeneratorList) (nb cs words bytes out : List ℕ) (W : RoomFor (l 
           → tableText k (plotAt (length nb′) (heldRows (recordIn nb′ cs′))) ≡ plotAnswer l
       unfolding plotAnswer
       table-plotted k e =
-          ap₂ tableText e (λ i y. points-same (l .n) (rows l) (A .proper) (A .formed .positive) (A .formed .upto) nb′ cs′
+          ap₂ tableText e (λ i y. points-same (l .n) (rows l) (A .proper) (A .formed .positive) (A .formed .upto) nb′
+          cs′
           words-are codes-are y i)
           ∙ sym (ap (λ b. cond b (tableOf l) (refusedText (firstFitting (plotLines l))))
           (eq-eqb (firstFitting (plotLines l)) 0 (sym number-found ∙ z)))

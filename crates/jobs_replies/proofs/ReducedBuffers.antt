@@ -1,4 +1,5 @@
--- The reduced record of a list in two buffers: no line refuses it, a plot can be read off it, and the plot is the list's.
+-- The reduced record of a list in two buffers: no line refuses it, a plot can be read off it, and the plot is the
+-- list's.
 use mathlib.Core.Bool.{false}
 use mathlib.Core.List.{List}
 use mathlib.Core.Path.{ap, ap₂, subst, sym, _∙_, _≡_}

@@ -50,54 +50,58 @@ module _ (n : ℕ) (nb cs : List ℕ) (count : ℕ) (kept before : List ℕ) (F 
 
   -- no line refuses it
   pub start-unrefused : UsedUnrefused (usedRecord n nb cs 0)
-  start-unrefused = subst UsedUnrefused (sym start) (record { no-line = started-stands n (F .positive) (F .upto) .still })
+  start-unrefused = subst UsedUnrefused (sym start) (record {
+    no-line = started-stands n (F .positive)
+        (F .upto) .still;
+  })
 
 module _ (n : ℕ) (nb cs : List ℕ) (count : ℕ) (steps : List Step) (few : length steps ≡ count) (kept before : List ℕ)
     (F : Fresh n nb cs count kept before) (nb′ cs′ : List ℕ) (used′ : ℕ) (kept′ : List ℕ)
     (R : LentRun (usedRecord n nb cs 0) steps 0 kept nb′ cs′ used′
-    kept′) (out : List ℕ) (at : ℕ) (P : Printed (resultNames ++ resultLines count (resultIn kept′)) 0 before out at) where
-  ran : LentRun (started n) steps 0 kept nb′ cs′ used′ kept′
-  ran = subst (λ u. LentRun u steps 0 kept nb′ cs′ used′ kept′) (start n nb cs count kept before F) R
+    kept′) (out : List ℕ) (at : ℕ) (P : Printed (resultNames ++ resultLines count (resultIn kept′)) 0 before out at)
+  where
+    ran : LentRun (started n) steps 0 kept nb′ cs′ used′ kept′
+    ran = subst (λ u. LentRun u steps 0 kept nb′ cs′ used′ kept′) (start n nb cs count kept before F) R
 
-  abbrev lines : List ℕ
-  lines = resultNames ++ resultLines (length steps) (resultsOf (started n) steps)
+    abbrev lines : List ℕ
+    lines = resultNames ++ resultLines (length steps) (resultsOf (started n) steps)
 
-  written : Printed lines 0 before out at
-  written = subst (λ t. Printed (resultNames ++ t) 0 before out at)
-      (lines-kept (started n) steps kept nb′ cs′ used′ kept′ ran count few) P
+    written : Printed lines 0 before out at
+    written = subst (λ t. Printed (resultNames ++ t) 0 before out at)
+        (lines-kept (started n) steps kept nb′ cs′ used′ kept′ ran count few) P
 
-  short : length lines ≤ 32 + 4096 * 14
-  short = omega (
-    arith,
-    length-append resultNames (resultLines (length steps) (resultsOf (started n) steps)),
-    length-results (length steps) (resultsOf (started n) steps),
-    F .few,
-    few,
-  )
+    short : length lines ≤ 32 + 4096 * 14
+    short = omega (
+      arith,
+      length-append resultNames (resultLines (length steps) (resultsOf (started n) steps)),
+      length-results (length steps) (resultsOf (started n) steps),
+      F .few,
+      few,
+    )
 
-  -- the record can be printed behind the lines
-  pub record-printable : Printable n nb′ cs′ at out
-  record-printable =
-      let S = run-sized n (started n) (started-sized n) steps in
-      record {
-        qubits = F .upto;
-        neighbours-long = omega (arith, ap length (ran .words), S .neighbours-long);
-        codes-long = omega (arith, ap length (ran .numbers), S .codes-long);
-        codes-small = λ q h. subst (λ c. getD c q 0 < 24) (sym (ran .numbers)) (S .codes-small q h);
-        room = omega (
-          arith,
-          short,
-          F .upto,
-          F .room,
-          written .end,
-          ap length (written .out) ∙ length-written before 0 lines (omega (arith, short, F .room)),
-        );
-      }
+    -- the record can be printed behind the lines
+    pub record-printable : Printable n nb′ cs′ at out
+    record-printable =
+        let S = run-sized n (started n) (started-sized n) steps in
+        record {
+          qubits = F .upto;
+          neighbours-long = omega (arith, ap length (ran .words), S .neighbours-long);
+          codes-long = omega (arith, ap length (ran .numbers), S .codes-long);
+          codes-small = λ q h. subst (λ c. getD c q 0 < 24) (sym (ran .numbers)) (S .codes-small q h);
+          room = omega (
+            arith,
+            short,
+            F .upto,
+            F .room,
+            written .end,
+            ap length (written .out) ∙ length-written before 0 lines (omega (arith, short, F .room)),
+          );
+        }
 
-  pub all-printed : (out′ : List ℕ) (r : ℕ) → Printed (recordText n nb′ cs′ used′) at out out′ r
-      → Printed (runText n steps) 0 before out′ r
-  unfolding jobAnswer
-  all-printed out′ r Q =
-      and-then (omega (arith, short, F .room)) written
-      (subst (λ t. Printed t at out out′ r)
-      (λ i. recordText (sym (run-qubits (started n) steps) i) (ran .words i) (ran .numbers i) (ran .marks i)) Q)
+    pub all-printed : (out′ : List ℕ) (r : ℕ) → Printed (recordText n nb′ cs′ used′) at out out′ r
+        → Printed (runText n steps) 0 before out′ r
+    unfolding jobAnswer
+    all-printed out′ r Q =
+        and-then (omega (arith, short, F .room)) written
+        (subst (λ t. Printed t at out out′ r)
+        (λ i. recordText (sym (run-qubits (started n) steps) i) (ran .words i) (ran .numbers i) (ran .marks i)) Q)

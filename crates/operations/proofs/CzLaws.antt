@@ -6,7 +6,16 @@ use Prim.Native.Nat.{_<_, ℕ}
 use native.Mathlib.Decide.{ℕ-discrete}
 use lib.Dec.{eqb}
 use Rattle.pauli.proofs.PauliLaws.{Pauli-path}
-use Rattle.pauli.proofs.PhaseLaws.{+ᵖ-assoc, +ᵖ-left, +ᵖ-zero, imaginary-+ᵖ, minus-real, phases, sumPhase-add, sumPhase-one}
+use Rattle.pauli.proofs.PhaseLaws.{
+  +ᵖ-assoc,
+  +ᵖ-left,
+  +ᵖ-zero,
+  imaginary-+ᵖ,
+  minus-real,
+  phases,
+  sumPhase-add,
+  sumPhase-one,
+}
 use Rattle.pauli.specs.Pauli.{
   _+ᵖ_,
   Pauli,

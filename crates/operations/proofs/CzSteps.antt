@@ -1,4 +1,5 @@
--- CZ on two vertices that are ready for it: the edges between two sets of vertices are flipped. A record of reduced form is
+-- CZ on two vertices that are ready for it: the edges between two sets of vertices are flipped. A record of reduced
+-- form is
 -- reduced again.
 use mathlib.Core.Bool.{_&&_, Bool, and-comm, and-false, false, true}
 use mathlib.Core.Logic.{_≢_}
@@ -27,7 +28,16 @@ use Rattle.words.proofs.Sums.{bitMonoid, fold-unit}
 use Rattle.words.specs.Bits.{Word, parity, _⊕_}
 use Rattle.operations.proofs.CzProducts.{same-products}
 use Rattle.operations.proofs.Places.{pauli-generator, pauli-low, pauli-then}
-use Rattle.operations.proofs.Reaching.{element, element-other, element-own, form-ready, reach-below, reach-kept, reach-z, x-reach}
+use Rattle.operations.proofs.Reaching.{
+  element,
+  element-other,
+  element-own,
+  form-ready,
+  reach-below,
+  reach-kept,
+  reach-z,
+  x-reach,
+}
 use Rattle.operations.proofs.ReducedForms.{form-reduced}
 use Rattle.operations.proofs.ZRows.{at-commute, chosen-zs, cz-product, joined-generator, zs}
 use Rattle.operations.specs.internal.ReadyPairs.{Ready, crossed}
@@ -146,7 +156,8 @@ module _ (n : ℕ) (r : GraphRecord) (S : Simple n (r .graph)) (a b : ℕ) (ha :
       (λ j l. subst (InGroup n n (czRows a b R)) (sym (row-after j l))
       (in-mul n n (czRows a b R) (proper .commuting)
       (in-mul n n (czRows a b R) (proper .commuting) (in-row n n (czRows a b R) j l)
-      (chosen-in (A j) gb (element-in b hb b-a (own b hb (P .second))))) (chosen-in (B j) ga (element-in a ha (own a ha (P .first)) a-b))))
+      (chosen-in (A j) gb (element-in b hb b-a (own b hb (P .second)))))
+      (chosen-in (B j) ga (element-in a ha (own a ha (P .first)) a-b))))
 
   pub turned-above : (q : ℕ) → n ≤ q → czTurned r a b q ≡ false
   turned-above q l =

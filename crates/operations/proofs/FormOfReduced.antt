@@ -62,7 +62,8 @@ module _ (n : ℕ) (rows : ℕ → Pauli) (P : Proper n rows) where
       ∙ code-x (D .hadamards q) (D .ys q) (D .minuses q) (r .graph j q) (eqb q j)
       ∙ ap (λ v. cond v (r .graph j q ⊕ (eqb q j && D .ys q)) (eqb q j)) h
 
-  -- a vertex with a Hadamard has no larger neighbour: its column is a sum of earlier ones, and these do not have the bit
+  -- a vertex with a Hadamard has no larger neighbour: its column is a sum of earlier ones, and these do not have the
+  -- bit
   no-larger : (b q : ℕ) → q < b → q < n → D .hadamards q ≡ true → (j : ℕ) → q < j → j < n → r .graph q j ≡ false
   no-larger zero q k m h j l jn = absurd (not-suc-le-zero k)
   no-larger (suc b) q k m h j l jn = go (no-larger b) (last-or k)

@@ -18,7 +18,14 @@ use Rattle.operations.specs.internal.UsedLaws.{MeasuredMarks, UsedLeft, 
 use Rattle.operations.proofs.AcceptedSteps.{after-made, made-passes}
 use Rattle.operations.proofs.UsedPassing.{lines-pass, used-passes}
 use Rattle.operations.proofs.UsedStaying.{stays-after, used-code}
-use Rattle.operations.proofs.MeasuringMarks.{arguments, measured-bit, measured-code, measured-marks, measured-word, pauli-code}
+use Rattle.operations.proofs.MeasuringMarks.{
+  arguments,
+  measured-bit,
+  measured-code,
+  measured-marks,
+  measured-word,
+  pauli-code,
+}
 
 -- the test of line 7 by its vertices
 unfolded : (v : UsedRecord) → ((t : ℕ) → (bit (v .used) t && (not (eqb (getD (v .held .neighbours) t 0) 0)

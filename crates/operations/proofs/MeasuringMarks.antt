@@ -39,7 +39,13 @@ use Rattle.words.proofs.Places.{other-place}
 use Rattle.words.proofs.Sums.{lt-or-ge}
 use Rattle.words.specs.Bits.{bit, digit, isOdd}
 use Rattle.operations.specs.Used.{UsedRecord, usedAfter, usedCode}
-use Rattle.operations.proofs.AcceptedSteps.{MeasureArguments, accepted-step, after-made, measure-arguments, measured-list}
+use Rattle.operations.proofs.AcceptedSteps.{
+  MeasureArguments,
+  accepted-step,
+  after-made,
+  measure-arguments,
+  measured-list,
+}
 use Rattle.operations.proofs.AloneVertices.{alone-code, alone-graph, aloneCode}
 use Rattle.operations.proofs.UsedStaying.{code-written, word-alone}
 
@@ -59,7 +65,8 @@ measured-in n rows P l q hq b c = go (isDetermined n rows l q) refl
 -- the number of the outcome is the bit
 outcome-bit : (n : ℕ) (rows : ℕ → Pauli) (l : Letter) (q b : ℕ) → b < 2 → contradicts n rows l q (isOdd b) ≡ false
     → outcomeNumber (measuredOutcome n rows l q (isOdd b)) ≡ b
-outcome-bit n rows l q b hb c = go (isDetermined n rows l q) ∙ ap digit (agreed-outcome n rows l q (isOdd b) c) ∙ small b hb
+outcome-bit n rows l q b hb c = go (isDetermined n rows l q) ∙ ap digit (agreed-outcome n rows l q (isOdd b) c) ∙ small
+    b hb
   where
     go : (d : Bool) → outcomeNumber (cond d (Determined (outcome n rows l q (isOdd b)))
         (Chosen (outcome n rows l q (isOdd b)))) ≡ digit (outcome n rows l q (isOdd b))
@@ -110,13 +117,15 @@ module _ (u : UsedRecord) (pauli q b : ℕ) (P : UsedPasses u (measurementOf pau
   pub measured-word : getD (leaves l o .neighbours) q 0 ≡ 0
   measured-word = ap (λ t. getD (t .neighbours) q 0) (after-made l o (P .as-before))
       ∙ word-alone (l .n) (made l o) q (arguments .below)
-      (alone-graph (l .n) rows (measured-list l pauli q b (P .as-before)) (pauliLetter pauli) acting q (arguments .below)
+      (alone-graph (l .n) rows (measured-list l pauli q b (P .as-before)) (pauliLetter pauli) acting q
+      (arguments .below)
       (isOdd b) inside)
 
   pub measured-code : getD (leaves l o .codes) q 0 ≡ 4 * (pauli - 1) + 2 * b
   measured-code = ap (λ t. getD (t .codes) q 0) (after-made l o (P .as-before))
       ∙ code-written (l .n) (made l o) q (arguments .below)
-      ∙ alone-code (l .n) rows (measured-list l pauli q b (P .as-before)) (pauliLetter pauli) acting q (arguments .below)
+      ∙ alone-code (l .n) rows (measured-list l pauli q b (P .as-before)) (pauliLetter pauli) acting q
+      (arguments .below)
       (isOdd b) inside
       ∙ pauli-code pauli b (arguments .not-none) (arguments .pauli-below) (arguments .bit-below) .0
 

@@ -68,7 +68,8 @@ module _ (words codes : List ℕ) (U : Unrefused (recordIn words codes)) (f : Gr
   are-written : recordIn words′ codes′ ≡ writtenRecord (length words) new
   are-written =
       ap₂ recordIn (R .neighbours) (R .numbers)
-      ∙ ap (λ m. lentRecord m (neighbourWords (length words) new) (codeNumbers (length words) new)) (tabulate-length (length words) _)
+      ∙ ap (λ m. lentRecord m (neighbourWords (length words) new) (codeNumbers (length words) new))
+      (tabulate-length (length words) _)
 
   pub rewritten-held : heldRecord (recordIn words′ codes′) ≡ f (heldRecord (recordIn words codes))
   rewritten-held = ap heldRecord are-written

@@ -39,10 +39,12 @@ given =
     left edge (measurementOf 3 0 1)
     ∷ left measured (measurementOf 3 1 1)
     ∷ (number measured (measurementOf 3 1 0) ∷ number measured (measurementOf 3 0 1) ∷ number measured (gateWith 0 24)
-    ∷ number measured (gateWith 0 8) ∷ number measured (czOn 0 0) ∷ number measured (czOn 0 1) ∷ number measured (czOn 0 2)
+    ∷ number measured (gateWith 0 8) ∷ number measured (czOn 0 0) ∷ number measured (czOn 0 1) ∷ number measured
+    (czOn 0 2)
     ∷ number measured (pivotOf 0 1) ∷ number measured (complementOf 0) ∷ [])
     ∷ (number (two (0 ∷ 0 ∷ []) (8 ∷ 8 ∷ []) 4) (gateWith 0 8) ∷ number (two (2 ∷ 1 ∷ []) (0 ∷ 0 ∷ []) 1) (gateWith 1 8)
-    ∷ number (two (0 ∷ 0 ∷ []) (1 ∷ 0 ∷ []) 1) (gateWith 1 8) ∷ number (two (0 ∷ 0 ∷ []) (24 ∷ 0 ∷ []) 1) (gateWith 1 8) ∷ [])
+    ∷ number (two (0 ∷ 0 ∷ []) (1 ∷ 0 ∷ []) 1) (gateWith 1 8) ∷ number (two (0 ∷ 0 ∷ []) (24 ∷ 0 ∷ []) 1) (gateWith 1 8)
+    ∷ [])
     ∷ []
 
 abbrev expected : List (List ℕ)

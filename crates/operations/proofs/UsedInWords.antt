@@ -38,7 +38,16 @@ use Rattle.record.specs.RecordSentences.{CodeAbove23}
 use Rattle.words.proofs.Flags.{both-true}
 use Rattle.words.specs.Bits.{bit, isOdd}
 use Rattle.operations.proofs.UsedPassing.{in-place-counted, with-used-passes}
-use Rattle.operations.specs.Used.{UsedRecord, usedArgumentsOf, usedCode, usedLines, usedLinesOf, usedStray, usedWrong, withUsed}
+use Rattle.operations.specs.Used.{
+  UsedRecord,
+  usedArgumentsOf,
+  usedCode,
+  usedLines,
+  usedLinesOf,
+  usedStray,
+  usedWrong,
+  withUsed,
+}
 use Rattle.operations.specs.UsedSentences.{
   Contradicted,
   IsUsed,
@@ -79,13 +88,15 @@ of-six c = (
 pub used-otherwise : (u : UsedRecord) → Decides (usedWrong u) (UsedOtherwise u)
 unfolding usedWrong
 used-otherwise u = some-decides (u .held .n) _ _ (λ q. and-decides (itself {a = bit (u .used) q})
-    (or-decides (not-decides (equal (getD (u .held .neighbours) q 0) 0)) (not-decides (of-six (getD (u .held .codes) q 0)))))
+    (or-decides (not-decides (equal (getD (u .held .neighbours) q 0) 0))
+    (not-decides (of-six (getD (u .held .codes) q 0)))))
 
 module _ (u : UsedRecord) where
   pub stray-bit : Decides (recordStray (u .held) || usedStray u) (StrayBit u)
   stray-bit = or-decides (stray-neighbour (u .held)) (stray (u .held .n) (u .used))
 
-  pub no-record : Decides ((notSimple (u .held .n) (graphIn (u .held .neighbours)) || false) || usedWrong u) (NoRecord u)
+  pub no-record : Decides ((notSimple (u .held .n) (graphIn (u .held .neighbours)) || false) || usedWrong u)
+      (NoRecord u)
   no-record = or-decides (or-none (not-simple (u .held .n) (graphIn (u .held .neighbours)))) (used-otherwise u)
 
   -- ---- the lines of the record
@@ -160,10 +171,12 @@ module _ (u : UsedRecord) where
   module _ (pauli q b : ℕ) where
     -- where its arguments are in order, 14 is about the record's group
     pub contradicted : firstFitting (usedArgumentsOf u (measurementOf pauli q b)) ≡ 0
-        → Decides (contradicts (u .held .n) (heldRows (u .held)) (pauliLetter pauli) q (isOdd b)) (Contradicted u pauli q b)
+        → Decides (contradicts (u .held .n) (heldRows (u .held)) (pauliLetter pauli) q (isOdd b))
+        (Contradicted u pauli q b)
     contradicted e =
         let six = leb 2 b || (eqb pauli 0 || leb 4 pauli) in
-        let before = with-used-passes u (argumentLines (u .held) pauli q b) (in-place-counted (u .held) six _) _ .0 e .0 in
+        let before = with-used-passes u (argumentLines (u .held) pauli q b) (in-place-counted (u .held) six _) _ .0 e .0
+        in
         let p = none-of-all (recordLines (u .held) false six) (line 8 (leb (u .held .n) q) ∷ [])
         (record-numbered (u .held) false six) before in
         contradicts-exactly (u .held .n) (heldRows (u .held)) (pauliLetter pauli) q (isOdd b)

@@ -35,7 +35,17 @@ use Rattle.record.specs.Lent.{LentRecord, recordLines}
 use Rattle.operations.specs.internal.UsedLaws.{UsedPasses}
 use Rattle.words.proofs.BitLaws.{zero-bit}
 use Rattle.words.proofs.SearchLaws.{some-none}
-use Rattle.operations.specs.Used.{UsedRecord, namesUsed, usedCode, usedLines, usedLinesOf, usedStep, usedStray, usedWrong, withUsed}
+use Rattle.operations.specs.Used.{
+  UsedRecord,
+  namesUsed,
+  usedCode,
+  usedLines,
+  usedLinesOf,
+  usedStep,
+  usedStray,
+  usedWrong,
+  withUsed,
+}
 
 -- the lines of a record: as they were, and the two tests
 pub lines-pass : (u : UsedRecord) (others five six : Bool) → (firstFitting (usedLines u others five six) ≡ 0)

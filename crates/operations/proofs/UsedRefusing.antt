@@ -32,7 +32,8 @@ later u (measurementOf pauli q b) = withTest 7 (usedWrong u) (withTest 5 (usedSt
 later u (complementOf a) = []
 later u (pivotOf j k) = []
 
-in-order : (u : UsedRecord) (o : Operation) → usedLinesOf u o ≡ earlierLines u o ++ (line 16 (namesUsed u o) ∷ later u o)
+in-order : (u : UsedRecord) (o : Operation) → usedLinesOf u o ≡ earlierLines u o ++
+    (line 16 (namesUsed u o) ∷ later u o)
 in-order u (gateWith q k) = refl
 in-order u (czOn a b) = refl
 in-order u (measurementOf pauli q b) = refl
@@ -93,7 +94,8 @@ between ls ms b N A L = (
 pub used-refused : (u : UsedRecord) (o : Operation) → UsedRefused u o
 used-refused u o =
     subst (λ ls. (firstFitting ls ≡ 16) ↔ ((firstFitting (earlierLines u o) ≡ 0) × (namesUsed u o ≡ true)))
-    (sym (in-order u o)) (between (earlierLines u o) (later u o) (namesUsed u o) (early u o .0) (early u o .1) (late u o))
+    (sym (in-order u o)) (between (earlierLines u o) (later u o) (namesUsed u o) (early u o .0) (early u o .1)
+    (late u o))
 
 -- ---- a pivot
 -- the ends of an edge are not used

@@ -33,9 +33,23 @@ use Rattle.words.proofs.Sums.{lt-or-ge}
 use Rattle.words.specs.Bits.{Word, bit, isOdd, wordOf}
 use Rattle.operations.specs.Used.{UsedRecord, usedCode, usedStray, usedWrong}
 use Rattle.operations.specs.UsedLaws.{UsedStay}
-use Rattle.operations.proofs.AcceptedSteps.{accepted-step, after-made, cz-list, gate-proper, measure-arguments, measured-list}
+use Rattle.operations.proofs.AcceptedSteps.{
+  accepted-step,
+  after-made,
+  cz-list,
+  gate-proper,
+  measure-arguments,
+  measured-list,
+}
 use Rattle.operations.proofs.AloneVertices.{Low}
-use Rattle.operations.proofs.StayingAlone.{AloneAt, complement-alone, cz-single, kept-code, kept-graph, measured-single}
+use Rattle.operations.proofs.StayingAlone.{
+  AloneAt,
+  complement-alone,
+  cz-single,
+  kept-code,
+  kept-graph,
+  measured-single,
+}
 
 -- a word without bits
 no-bits : (n : ℕ) (f : Word) → ((q : ℕ) → f q ≡ false) → wordOf n f ≡ 0

@@ -58,12 +58,13 @@ abbrev pub determinedNumber : Outcome → ℕ
 determinedNumber (Determined s) = 1
 determinedNumber (Chosen s) = 0
 
--- generators of the group afterwards where P is not determined: the first row that does not commute with P goes
--- into the others that do not, and P takes its place
+-- the rows other than row g that do not commute with P
 abbrev pub against : ℕ → (ℕ → Pauli) → Pauli → ℕ → Word
 against n rows P g j = anticommute n (rows j) P && not (eqb j g)
 
--- that row goes into the others that do not commute with P, and P takes its place
+-- generators of the group afterwards where P is not determined: row g, which does not commute with P, goes into the
+-- others
+-- that do not, and P takes its place
 abbrev pub projected : ℕ → (ℕ → Pauli) → Pauli → ℕ → ℕ → Pauli
 projected n rows P g = put (shear n rows g (against n rows P g)) g P
 

@@ -53,7 +53,8 @@ gateSentences u q k = inPlaceSentences u (CodeAbove23 (u .held) ⊎ (23 < k)) (u
 -- 8: ".. CZ .. names one qubit twice"
 abbrev pub czSentences : UsedRecord → ℕ → ℕ → List Sentence
 czSentences u a b =
-    inPlaceSentences u (CodeAbove23 (u .held)) ((u .held .n ≤ a) ⊎ ((u .held .n ≤ b) ⊎ (a ≡ b))) (IsUsed u a ⊎ IsUsed u b)
+    inPlaceSentences u (CodeAbove23 (u .held)) ((u .held .n ≤ a) ⊎ ((u .held .n ≤ b) ⊎ (a ≡ b)))
+    (IsUsed u a ⊎ IsUsed u b)
 
 -- a vertex that is complemented at
 abbrev pub complementSentences : UsedRecord → ℕ → List Sentence

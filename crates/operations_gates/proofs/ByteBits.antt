@@ -63,7 +63,8 @@ module _ (x : ℕ) where
           let three : 3 + (8 * k + 0) ≡ 8 * k + 3 = omega arith in
           let four : 4 + (8 * k + 0) ≡ 8 * k + 4 = omega arith in
           and-true _ ∙ ap₂ _||_ (ap (bit x) here) (ap₂ _||_ (ap (bit x) three) (ap (bit x) four))
-      at (suc t) = ap (λ v. (bit x (8 * k + suc t) || (bit x (3 + (8 * k + suc t)) || bit x (4 + (8 * k + suc t)))) && v)
+      at (suc t) = ap (λ v. (bit x (8 * k + suc t) || (bit x (3 + (8 * k + suc t)) || bit x (4 + (8 * k + suc t)))) &&
+          v)
           (eqb·suc-zero t)
           ∙ and-false (bit x (8 * k + suc t) || (bit x (3 + (8 * k + suc t)) || bit x (4 + (8 * k + suc t))))
           ∙ sym (ap (λ v. v && (bit x (8 * k) || (bit x (8 * k + 3) || bit x (8 * k + 4)))) (eqb·suc-zero t))

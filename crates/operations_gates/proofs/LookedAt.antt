@@ -51,7 +51,8 @@ module _ (codes : List ℕ) where
 
   -- ---- marks: those of the codes from i on, row by row
   pub record Rows (i rows : ℕ) : Type 0 where
-    pub held : length codes ≤ 64 → (k r : ℕ) → k < 8 → r < 8 → bit rows (8 * k + r) ≡ marked (getD codes (i + 8 * r + k) 0)
+    pub held : length codes ≤ 64 → (k r : ℕ) → k < 8 → r < 8 → bit rows (8 * k + r) ≡ marked
+        (getD codes (i + 8 * r + k) 0)
 
   pub rows-at : {i j rows : ℕ} → i ≡ j → Rows i rows → Rows j rows
   rows-at {i} {j} {rows} e R = subst (λ q. Rows q rows) e R

@@ -69,7 +69,8 @@ gathered z = bitAnd (laid z * 2113665 / 2 ^ 21) 255
 -- the number with these digits to base m
 abbrev number : ℕ → Bool → Bool → Bool → Bool → Bool → Bool → Bool → Bool → ℕ
 number m a b c d e f g h =
-    (((((((0 * m + digit h) * m + digit g) * m + digit f) * m + digit e) * m + digit d) * m + digit c) * m + digit b) * m
+    (((((((0 * m + digit h) * m + digit g) * m + digit f) * m + digit e) * m + digit d) * m + digit c) * m + digit b) *
+    m
     + digit a
 
 gathers : (f : Word) → gathered (apart 8 f) ≡ wordOf 8 f

@@ -130,7 +130,8 @@ module _ (codes : List ℕ) (i : ℕ) where
       held : (k t : ℕ) → k < 8 → t < 8 → (bit up (8 * k + t) || bit b (8 * k + t)) ≡ bit (getD codes (i - 1 + k) 0) t
       held zero t h s =
           let place : 8 * 0 + t ≡ t = omega arith in
-          ap₂ _||_ (bit-mod (a * 2 ^ 8) 64 (8 * 0 + t) (omega (arith, s)) ∙ bit-shl-low a 8 (8 * 0 + t) (omega (arith, s)))
+          ap₂ _||_ (bit-mod (a * 2 ^ 8) 64 (8 * 0 + t) (omega (arith, s)) ∙ bit-shl-low a 8 (8 * 0 + t)
+          (omega (arith, s)))
           (ap₂ bit own place)
       held (suc k) t h s =
           let place : 8 * suc k + t ≡ 8 + (8 * k + t) = omega arith in

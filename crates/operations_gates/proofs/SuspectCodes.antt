@@ -16,7 +16,8 @@ use Rattle.words.specs.Bits.{isOdd}
 use Rattle.operations_gates.specs.internal.Watching.{Suspected, Watched}
 
 -- a vertex out of place has such a code
-pub out-suspect : (code : ℕ) (b : Bool) → (leb 12 code || (isOdd code || (leb 8 code && b))) ≡ true → suspect code ≡ true
+pub out-suspect : (code : ℕ) (b : Bool) → (leb 12 code || (isOdd code || (leb 8 code && b))) ≡ true → suspect code ≡
+    true
 out-suspect code b h = high (leb 12 code) refl h
   where
     odd : (o e : Bool) → (o || (e && b)) ≡ true → (o || e) ≡ true

@@ -51,7 +51,8 @@ kept-place words codes words₁ codes₁ K q l = subst (λ k. q < k) (sym (K .lo
 -- after a reduction
 module _ (words codes words₁ codes₁ words′ codes′ : List ℕ) (K : GroupKept words codes words₁ codes₁)
     (N : Normalised words₁ codes₁ words′ codes′) where
-  pub normalised-ready : (a b : ℕ) → a < length words → b < length words → Ready (heldRecord (recordIn words′ codes′)) a b
+  pub normalised-ready : (a b : ℕ) → a < length words → b < length words → Ready (heldRecord (recordIn words′ codes′)) a
+      b
   normalised-ready a b ha hb =
       form-ready (length words₁) (heldRecord (recordIn words′ codes′))
       (subst (λ m. Simple m ((heldRecord (recordIn words′ codes′)) .graph)) (N .kept .long)
@@ -100,18 +101,21 @@ module _ (words codes words₁ codes₁ words₂ codes₂ : List ℕ) (K : Group
         long = rewritten-length words₁ codes₁ U₁ (λ g. czRecord g a b) words₂ codes₂ R S₂ above ∙ K .long;
         unrefused = rewritten-unrefused words₁ codes₁ U₁ (λ g. czRecord g a b) words₂ codes₂ R S₂ above;
         group = same-trans
-            (cz-of-group (length words) a b ha hb ab (heldRows (recordIn words codes)) (rowsOf (length words) r₁) (K .group))
+            (cz-of-group (length words) a b ha hb ab (heldRows (recordIn words codes)) (rowsOf (length words) r₁)
+            (K .group))
             (subst (λ k. SameGroup k k (czRows a b (rowsOf k r₁)) (rowsOf k r₂)) (K .long) same);
       }
 
 -- ---- the group after a gate
 pub gate-held : (words codes : List ℕ) → Unrefused (recordIn words codes) → (q : ℕ) → q < length words → (k : ℕ)
     → (codes′ : List ℕ) → codes′ ≡ set codes q (codeOf (then (codesOf codes q) (cliffordOf k)))
-    → GroupHeld (length words) (rowsOf (length words) (gated (heldRecord (recordIn words codes)) q (cliffordOf k))) words codes′
+    → GroupHeld (length words) (rowsOf (length words) (gated (heldRecord (recordIn words codes)) q (cliffordOf k)))
+    words codes′
 gate-held words codes U q hq k codes′ e =
     record {
       long = refl;
       unrefused = gated-unrefused words codes U q hq k codes′ e;
       group = subst (λ g. SameGroup (length words) (length words) (rowsOf (length words) g)
-          (rowsOf (length words) (heldRecord (recordIn words codes′)))) (gated-held words codes U q hq k codes′ e) same-refl;
+          (rowsOf (length words) (heldRecord (recordIn words codes′)))) (gated-held words codes U q hq k codes′ e)
+          same-refl;
     }

@@ -1,4 +1,5 @@
--- What the steps leave as it was: every vertex but the one of the step and its neighbours, and of their codes whether they
+-- What the steps leave as it was: every vertex but the one of the step and its neighbours, and of their codes whether
+-- they
 -- are odd, or 8 or more.
 use mathlib.Core.Bool.{_&&_, and-false, cond, false, not, true, true≢false}
 use mathlib.Core.List.{List}
@@ -43,7 +44,8 @@ complement-elsewhere : (r : GraphRecord) (a q : ℕ) → eqb q a ≡ false → r
 complement-elsewhere r a q d e =
     record {
       row = λ i. ap (λ b. r .graph q i ⊕ ((b && r .graph a i) && not (eqb i q))) e ∙ ⊕-zero (r .graph q i);
-      code = ap₂ (λ u v. cond u (then (cliffordOf 13) (r .codes q)) (cond v (then (cliffordOf 6) (r .codes q)) (r .codes q)))
+      code = ap₂ (λ u v. cond u (then (cliffordOf 13) (r .codes q))
+          (cond v (then (cliffordOf 6) (r .codes q)) (r .codes q)))
           d e;
     }
 
@@ -145,7 +147,8 @@ module _ (words codes : List ℕ) (U : Unrefused (recordIn words codes)) (words�
         ∙ ap (r .graph k) (sym h) ∙ neighbourless q e .1)))
         (other-place {i = q} {j = k} (λ h. true≢false (sym joined ∙ ap (r .graph j) (sym h) ∙ neighbourless q e .0)))
         (neighbourless q e .0) (neighbourless q e .1))
-        (λ q e. pivot-suspect r j k q (single-apart j q at-j is-j (ends q e .0)) (single-apart k q at-k is-k (ends q e .1)))
+        (λ q e. pivot-suspect r j k q (single-apart j q at-j is-j (ends q e .0))
+        (single-apart k q at-k is-k (ends q e .1)))
       where
         ends : (q : ℕ) → bit (bitOr at-j at-k) q ≡ false → (bit at-j q ≡ false) × (bit at-k q ≡ false)
         ends q e = neither (bit at-j q) (bit at-k q) (sym (bit-or at-j at-k q) ∙ e)

@@ -38,7 +38,8 @@ module _ (words codes : List ℕ) (U : Unrefused (recordIn words codes)) (q : �
 
   is-above : (j : ℕ) → length words ≤ j
       → (complementRecord (heldRecord (recordIn words codes)) q) .codes j ≡ identityClifford
-  is-above = complement-above (length words) (heldRecord (recordIn words codes)) simple q hq (unrefused-above words codes U)
+  is-above = complement-above (length words) (heldRecord (recordIn words codes)) simple q hq
+      (unrefused-above words codes U)
 
   -- q keeps its neighbours
   same-near : (j : ℕ) → bit near j ≡ complement (graphIn words) q q j
@@ -48,7 +49,8 @@ module _ (words codes : List ℕ) (U : Unrefused (recordIn words codes)) (q : �
 
   pub complement-asks : ((length codes₁ ≤ 64) × ((j : ℕ) → getD codes₁ j 0 < 24))
       × ((near < 2 ^ (length codes₁)) × (q < length codes₁))
-  complement-asks = parted-asks words codes U (λ g. complementRecord g q) is-simple is-above q hq near codes₁ coded same-near
+  complement-asks = parted-asks words codes U (λ g. complementRecord g q) is-simple is-above q hq near codes₁ coded
+      same-near
 
   pub complement-measured : (b : Bool) (words₂ codes₂ : List ℕ) → length words₂ ≡ length words
       → SameGraph (graphIn words₂) (partedFrom (complement (graphIn words) q) q)
@@ -57,5 +59,6 @@ module _ (words codes : List ℕ) (U : Unrefused (recordIn words codes)) (q : �
       (then (hadamardCode (b ⊕ isOdd (getD codes₁ q 0))) (codesOf codes₁ q)) j))
       → GroupMeasured words codes (image (codesOf codes q) Y) q b words₂ codes₂
   complement-measured b words₂ codes₂ long edges turned =
-      parted-measured words codes U (λ g. complementRecord g q) is-simple is-above q hq near codes₁ coded same-near b words₂
+      parted-measured words codes U (λ g. complementRecord g q) is-simple is-above q hq near codes₁ coded same-near b
+      words₂
       codes₂ long edges turned (image (codesOf codes q) Y) (brought-by-complement words codes U q hq)

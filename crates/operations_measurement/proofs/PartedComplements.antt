@@ -1,4 +1,5 @@
--- A complementation at q without the edges at q: a loop in which each neighbour of q gets the others flipped and loses q.
+-- A complementation at q without the edges at q: a loop in which each neighbour of q gets the others flipped and loses
+-- q.
 use mathlib.Core.Bool.{_&&_, Bool, cond, false, not, true, _||_}
 use mathlib.Core.List.{List}
 use mathlib.Core.Path.{ap, ap₂, subst, sym, _∙_, _≡_}
@@ -73,6 +74,7 @@ module _ (old : List ℕ) (q : ℕ) (S : Simple (length old) (graphIn old)) wher
         ∙ ap (λ b. θ i l ⊕ b) (bit-flip (bitOr (getD old q 0) s) i l ∙ ap (λ b. b ⊕ eqb l i) (closed-at old S q s es l))
         ∙ without i true (T .named i named) l) f
 
-    pub turning-end : rest ≡ 0 → q < length old → SameGraph (graphIn (set new q 0)) (partedFrom (complement (graphIn old) q) q)
+    pub turning-end : rest ≡ 0 → q < length old → SameGraph (graphIn (set new q 0))
+        (partedFrom (complement (graphIn old) q) q)
     turning-end e hq = all-parted (complement θ q) q new (subst (λ m. q < m) (sym (T .long)) hq)
         (over-end (AwayAt old q) (getD old q 0) old new rest T e)

@@ -1,4 +1,5 @@
--- A pivot on an edge q, k without the edges at q: those between the neighbours of q and the closed neighbourhood of k are
+-- A pivot on an edge q, k without the edges at q: those between the neighbours of q and the closed neighbourhood of k
+-- are
 -- flipped, and the neighbours that q has after the pivot are k and its other neighbours.
 use mathlib.Core.Bool.{_&&_, Bool, cond, not, true, _||_}
 use mathlib.Core.List.{List}
@@ -33,7 +34,8 @@ use Rattle.words.proofs.Places.{same-place}
 use Rattle.words.specs.Bits.{bit, sameBit, _⊕_}
 use Rattle.operations_measurement.proofs.RemovedEdges.{partedFrom}
 
--- ---- at two places x and y; the bits say: J and K, x is q, k; J′ and K′, y is; t, they are joined; a and b, q is joined
+-- ---- at two places x and y; the bits say: J and K, x is q, k; J′ and K′, y is; t, they are joined; a and b, q is
+-- joined
 -- to x, y; c and d, k is. In a simple graph where q and k are joined:
 abbrev known : Bool → Bool → Bool → Bool → Bool → Bool → Bool → Bool
 known J J′ t a b c d = (not J || (not a && (c && sameBit t b))) && (not J′ || (not b && (d && sameBit t a)))
@@ -47,7 +49,8 @@ both J K J′ K′ t a b c d = (t ⊕ (((a || J) && (d || K′)) ⊕ ((c || K) &
 open-at : (J K J′ K′ t a b c d : Bool) → known J J′ t a b c d ≡ true → opened K K′ t a b c d ≡ both J K J′ K′ t a b c d
 open-at J K J′ K′ t a b c d h =
     under (known J J′ t a b c d) (opened K K′ t a b c d) (both J K J′ K′ t a b c d) h
-    (bits 9 (λ J K J′ K′ t a b c d. cond (known J J′ t a b c d) (opened K K′ t a b c d) (both J K J′ K′ t a b c d)) both tt
+    (bits 9 (λ J K J′ K′ t a b c d. cond (known J J′ t a b c d) (opened K K′ t a b c d) (both J K J′ K′ t a b c d)) both
+    tt
     J K J′ K′ t a b c d)
 
 -- at one place, the row of q; B, it is k or a neighbour of k

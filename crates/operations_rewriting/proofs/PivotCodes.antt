@@ -59,5 +59,6 @@ module _ (n : ℕ) (r : GraphRecord) (S : Simple n (r .graph)) (j k : ℕ) (edge
   pub pivot-code : (q : ℕ) → (pivotRecord r j k) .codes q
       ≡ pivotedCode (eqb q j) (eqb q k) (r .graph j q) (r .graph k q) (r .codes q)
   pivot-code q =
-      code-at (θ j j) (θ j k) (θ k j) (eqb j k) (eqb q j) (eqb q k) (θ j q) (θ k q) (r .codes q) (S .loopless j) edge back
+      code-at (θ j j) (θ j k) (θ k j) (eqb j k) (eqb q j) (eqb q k) (θ j q) (θ k q) (r .codes q) (S .loopless j) edge
+      back
       (possible q)

@@ -70,7 +70,8 @@ module _ (words codes : List ℕ) (U : Unrefused (recordIn words codes)) (j k : 
       stored : (q : ℕ) → q < length words → (q ≡ k → ⊥) → Dec (q ≡ j) → getD (set codes₁ j v) q 0
           ≡ codeOf (pivotedCode (eqb q j) false (bit (getD words j 0) q) (bit (getD words k 0) q) (codesOf codes q))
       stored q l dk (yes d) = subst (λ m. getD (set codes₁ j v) m 0
-          ≡ codeOf (pivotedCode (eqb m j) false (bit (getD words j 0) m) (bit (getD words k 0) m) (codesOf codes m))) (sym d)
+          ≡ codeOf (pivotedCode (eqb m j) false (bit (getD words j 0) m) (bit (getD words k 0) m) (codesOf codes m)))
+          (sym d)
           (getD-set-same codes₁ j v 0 (subst (λ m. j < m) (sym long₁) hj) ∙ ev
           ∙ ap (λ b. codeOf (pivotedCode b false (bit (getD words j 0) j) (bit (getD words k 0) j) (codesOf codes j)))
           (sym (same-place j)))
@@ -85,10 +86,12 @@ module _ (words codes : List ℕ) (U : Unrefused (recordIn words codes)) (j k : 
       place q l = elim (ℕ-discrete q k) [
         | yes d ↦ subst (λ m. getD (set (set codes₁ j v) k w) m 0 ≡ new m) (sym d)
             (getD-set-same (set codes₁ j v) k w 0 (subst (λ m. k < m) (sym (length-set codes₁ j v ∙ long₁)) hk) ∙ ew
-            ∙ ap (λ b. codeOf (pivotedCode (eqb k j) b (bit (getD words j 0) k) (bit (getD words k 0) k) (codesOf codes k)))
+            ∙ ap (λ b. codeOf (pivotedCode (eqb k j) b (bit (getD words j 0) k) (bit (getD words k 0) k)
+            (codesOf codes k)))
             (sym (same-place k)))
         | no d ↦ getD-set-other (set codes₁ j v) k q w 0 d ∙ stored q l d (ℕ-discrete q j)
-            ∙ ap (λ b. codeOf (pivotedCode (eqb q j) b (bit (getD words j 0) q) (bit (getD words k 0) q) (codesOf codes q)))
+            ∙ ap (λ b. codeOf (pivotedCode (eqb q j) b (bit (getD words j 0) q) (bit (getD words k 0) q)
+            (codesOf codes q)))
             (sym (other-place d))
       ]
 

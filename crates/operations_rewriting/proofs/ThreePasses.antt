@@ -49,7 +49,8 @@ module _ (old : List ℕ) (rows : ℕ) (new : List ℕ) (T : Turned old rows new
   turned-below q = elim (lt-or-ge q (length old)) [
     | inl l ↦ subst (λ v. v < 24) (sym (ap (λ m. getD m q 0) T ∙ tabulate-at (length old) _ q l))
         (codeOf-lt (turned (bit rows q) (codesOf old q)))
-    | inr l ↦ subst (λ v. v < 24) (sym (List·getD-eq-default new 0 (subst (λ m. m ≤ q) (sym turned-length) l))) (lit< tt)
+    | inr l ↦ subst (λ v. v < 24) (sym (List·getD-eq-default new 0 (subst (λ m. m ≤ q) (sym turned-length) l)))
+        (lit< tt)
   ]
 
 -- the next pass may follow
@@ -102,7 +103,8 @@ module _ (a b : ℕ) where
       long₂ : length c₂ ≡ length c₁
       long₂ = turned-length c₁ (bitXor b (bitAnd a b)) c₂ T₂
 
-      place : (q : ℕ) → q < length c₀ → turned (bit (bitAnd a b) q) (codesOf c₂ q) ≡ turned (bit (bitOr a b) q) (codesOf c₀ q)
+      place : (q : ℕ) → q < length c₀ → turned (bit (bitAnd a b) q) (codesOf c₂ q) ≡ turned (bit (bitOr a b) q)
+          (codesOf c₀ q)
       place q l =
           ap₂ turned (bit-and a b q)
           (turned-at c₁ (bitXor b (bitAnd a b)) c₂ T₂ q (subst (λ n. q < n) (sym long₁) l)

@@ -11,7 +11,14 @@ use Rattle.words.proofs.BitLaws.{bit-ext, bit-xor}
 use Rattle.words.proofs.Finite.{⊕-twice, ⊕-zero}
 use Rattle.words.proofs.Places.{other-place}
 use Rattle.words.specs.Bits.{bit, _⊕_}
-use Rattle.orbits.proofs.GraphNumbers.{graph-bit, graph-number, graph-simple, number-bit, number-graph, number-lt}
+use Rattle.orbits.proofs.GraphNumbers.{
+  graph-bit,
+  graph-number,
+  graph-simple,
+  number-bit,
+  number-graph,
+  number-lt,
+}
 use Rattle.orbits.proofs.Pairs.{pair-inside}
 use Rattle.orbits.specs.Numbers.{complementNumber, graphAt, graphCount, graphNumber, pairAt, pairsOf}
 use Rattle.orbits.specs.internal.Numbers.{pairsWithin}

@@ -100,7 +100,8 @@ module _ (n : ℕ) (few : n ≤ 6) where
 
   -- simple graphs that agree at every pair are equal
   pub same-at-pairs : (θ φ : Graph) → Simple n θ → Simple n φ
-      → ((k : ℕ) → k < pairsOf n → θ ((pairAt n k) .low) ((pairAt n k) .high) ≡ φ ((pairAt n k) .low) ((pairAt n k) .high))
+      → ((k : ℕ) → k < pairsOf n → θ ((pairAt n k) .low) ((pairAt n k) .high) ≡ φ ((pairAt n k) .low)
+      ((pairAt n k) .high))
       → θ ≡ φ
   same-at-pairs θ φ S R h = fun-ext (λ i. fun-ext (λ j. all i j (lt-or-ge i n) (lt-or-ge j n)))
     where

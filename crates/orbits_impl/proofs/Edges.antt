@@ -64,7 +64,8 @@ none-joined n pairs g few e = record {
 
 module _ {n pairs g : ℕ} {words : List ℕ} {k : ℕ} {pair : Pair} (J : Joining n pairs g words k pair)
     (more : k < pairs) (joined : Bool) (e : joined ≡ bit g k) where
-  pub one-joined : (w v : ℕ) → ((j : ℕ) → bit w j ≡ (bit (getD words (pair .low) 0) j || (eqb j (pair .high) && joined)))
+  pub one-joined : (w v : ℕ) → ((j : ℕ) → bit w j ≡ (bit (getD words (pair .low) 0) j ||
+      (eqb j (pair .high) && joined)))
       → ((j : ℕ) → bit v j
       ≡ (bit (getD (set words (pair .low) w) (pair .high) 0) j || (eqb j (pair .low) && joined)))
       → (next : Pair) → next ≡ nextPair n pair
@@ -98,7 +99,8 @@ module _ {n pairs g : ℕ} {words : List ℕ} {k : ℕ} {pair : Pair} (J : Joini
 
       at-high : (j : ℕ) → bit (getD after high 0) j ≡ (bit (getD words high 0) j || (bit g k && joins pair high j))
       at-high j =
-          ap (λ m. bit m j) (getD-set-same (set words low w) high v 0 (omega (arith, inside, length-set words low w, J .long)))
+          ap (λ m. bit m j) (getD-set-same (set words low w) high v 0
+          (omega (arith, inside, length-set words low w, J .long)))
           ∙ hv j
           ∙ ap₂ (λ m b. bit m j || b) (getD-set-other words low high w 0 (λ c. absurd (omega (arith, rises, c))))
           (turned _ _ (joins-high pair rises j))
@@ -112,9 +114,11 @@ module _ {n pairs g : ℕ} {words : List ℕ} {k : ℕ} {pair : Pair} (J : Joini
       at : (i j : ℕ) → Dec (i ≡ high) → Dec (i ≡ low)
           → bit (getD after i 0) j ≡ (bit (getD words i 0) j || (bit g k && joins pair i j))
       at i j (yes d) b =
-          subst (λ i. bit (getD after i 0) j ≡ (bit (getD words i 0) j || (bit g k && joins pair i j))) (sym d) (at-high j)
+          subst (λ i. bit (getD after i 0) j ≡ (bit (getD words i 0) j || (bit g k && joins pair i j))) (sym d)
+          (at-high j)
       at i j (no d) (yes b) =
-          subst (λ i. bit (getD after i 0) j ≡ (bit (getD words i 0) j || (bit g k && joins pair i j))) (sym b) (at-low j)
+          subst (λ i. bit (getD after i 0) j ≡ (bit (getD words i 0) j || (bit g k && joins pair i j))) (sym b)
+          (at-low j)
       at i j (no d) (no b) =
           ap (λ m. bit m j) (getD-set-other (set words low w) high i v 0 d ∙ getD-set-other words low i w 0 b)
           ∙ sym (ap (λ c. bit (getD words i 0) j || c) (ap (λ c. bit g k && c) (joins-other pair rises j i b d)

@@ -54,7 +54,8 @@ pub around-more : (n g a : ℕ) {m l m₁ l₁ m₂ l₂ : List ℕ} {t t₁ t�
     → (h : ℕ) → h ≡ complementNumber n g a → Visited (λ u. u ≡ h) m₁ l₁ t₁ m₂ l₂ t₂
     → Visited (Around n g (a + 1)) m l t m₂ l₂ t₂
 around-more n g a A h e B =
-    visited-both (Around n g (a + 1)) A B (λ u p. (p .0, omega (arith, p .1), p .2)) (λ u p. (a, omega arith, p ∙ e)) out
+    visited-both (Around n g (a + 1)) A B (λ u p. (p .0, omega (arith, p .1), p .2)) (λ u p. (a, omega arith, p ∙ e))
+    out
   where
     out : (u : ℕ) → Around n g (a + 1) u → Around n g a u ⊎ (u ≡ h)
     out u p = go (last-or (omega (arith, p .1)))
@@ -64,7 +65,8 @@ around-more n g a A h e B =
         go (inr l) = inl (p .0, l, p .2)
 
 -- ---- the search
--- the marked numbers are reached from g, and those of the first `head` places are followed; the search began with list₀,
+-- the marked numbers are reached from g, and those of the first `head` places are followed; the search began with
+-- list₀,
 -- which had tail₀ numbers
 pub record Following (n g : ℕ) (list₀ : List ℕ) (tail₀ : ℕ) (marks list : List ℕ) (tail head : ℕ) : Type 0 where
   pub queue : Queue marks list tail

@@ -41,7 +41,8 @@ flipped-mark marks h long small u = go (ℕ-discrete (u / 64) (h / 64)) (ℕ-dis
         ∙ ap₂ (λ i b. bit (getD marks i 0) (u % 64) ⊕ b) (sym d) (places e)
       where
         places : Dec (u ≡ h) → eqb (u % 64) (h % 64) ≡ eqb u h
-        places (yes e) = ap₂ eqb (ap (λ v. v % 64) e) refl ∙ same-place (h % 64) ∙ sym (ap (λ v. eqb v h) e ∙ same-place h)
+        places (yes e) = ap₂ eqb (ap (λ v. v % 64) e) refl ∙ same-place (h % 64) ∙ sym
+            (ap (λ v. eqb v h) e ∙ same-place h)
         places (no e) = other-place {i = u % 64} {j = h % 64} (λ f. e (omega (arith, d, f))) ∙ sym (other-place e)
     go (no d) e =
         ap (λ w. bit w (u % 64)) (getD-set-other marks (h / 64) (u / 64) word 0 d)
@@ -80,7 +81,8 @@ module _ (h : ℕ) (small : h < 32768) (marks list : List ℕ) (tail : ℕ) (Q :
     one-more : count 32768 (marked (flipped marks h)) ≡ suc tail
     one-more =
         count-except 32768 (marked (flipped marks h)) h small new-mark
-        ∙ ap suc (count-ext 32768 (except (marked (flipped marks h)) h) (marked marks) (λ u l. without u (ℕ-discrete u h))
+        ∙ ap suc (count-ext 32768 (except (marked (flipped marks h)) h) (marked marks)
+        (λ u l. without u (ℕ-discrete u h))
         ∙ Q .counted)
       where
         without : (u : ℕ) → Dec (u ≡ h) → except (marked (flipped marks h)) h u ≡ marked marks u
@@ -114,8 +116,12 @@ module _ (h : ℕ) (small : h < 32768) (marks list : List ℕ) (tail : ℕ) (Q :
             → (i : ℕ) × (i < tail + 1) × (getD (set list tail h) i 0 ≡ u)
         found u d (yes f) = (tail, omega arith, getD-set-same list tail h 0 room ∙ sym f)
         found u d (no f) =
-            let o = Q .listed u (sym (other-mark u f) ∙ d) in
-            (o .0, omega (arith, o .1), getD-set-other list tail (o .0) h 0 (λ c. absurd (omega (arith, o .1, c))) ∙ o .2)
+            let o = Q .listed u (sym (other-mark u f) ∙ d) in (
+              o .0,
+              omega (arith, o .1),
+              getD-set-other list tail (o .0) h 0 (λ c. absurd (omega (arith, o .1, c))) ∙
+                  o .2,
+            )
 
         entry : (i : ℕ) → (i ≡ tail) ⊎ (i < tail) → marked (flipped marks h) (getD (set list tail h) i 0) ≡ true
         entry i (inl d) =
@@ -132,7 +138,8 @@ module _ (h : ℕ) (small : h < 32768) (marks list : List ℕ) (tail : ℕ) (Q :
     pub visited-anew : (word : ℕ) → word ≡ bitXor (getD marks (h / 64) 0) (2 ^ (h % 64))
         → Visited (λ u. u ≡ h) marks list tail (set marks (h / 64) word) (set list tail h) (tail + 1)
     visited-anew word f =
-        subst (λ w. Visited (λ u. u ≡ h) marks list tail (set marks (h / 64) w) (set list tail h) (tail + 1)) (sym f) behind
+        subst (λ w. Visited (λ u. u ≡ h) marks list tail (set marks (h / 64) w) (set list tail h) (tail + 1)) (sym f)
+        behind
 
 -- ---- several visits
 pub visited-none : (P : ℕ → Type 0) (marks list : List ℕ) (tail : ℕ) → Queue marks list tail → ((u : ℕ) → P u → ⊥)

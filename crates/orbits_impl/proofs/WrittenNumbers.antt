@@ -45,7 +45,8 @@ module _ (rest : ℕ) (small : rest < 2 ^ 64) (nonzero : rest ≡ 0 → ⊥) (q 
       → numbersIn base rest ≡ (base + q) ∷ numbersIn base rest′
   numbers-first base rest′ f =
       ap (map (λ v. base + v)) (selected-first 64 (bit rest) q first
-      ∙ ap {B = List ℕ} (λ l. q ∷ l) (selected-ext 64 (except (bit rest) q) (bit rest′) (λ v l. left v (ℕ-discrete v q))))
+      ∙ ap {B = List ℕ} (λ l. q ∷ l) (selected-ext 64 (except (bit rest) q) (bit rest′)
+      (λ v l. left v (ℕ-discrete v q))))
     where
       left : (v : ℕ) → Dec (v ≡ q) → except (bit rest) q v ≡ bit rest′ v
       left v (yes d) =
@@ -54,7 +55,8 @@ module _ (rest : ℕ) (small : rest < 2 ^ 64) (nonzero : rest ≡ 0 → ⊥) (q 
           ∙ ap₂ _⊕_ (ap (bit rest) d ∙ first .passes) (ap (λ u. eqb u q) d ∙ same-place q))
       left v (no d) =
           ap (λ b. bit rest v && not b) (other-place d) ∙ and-true (bit rest v)
-          ∙ sym (ap (λ m. bit m v) f ∙ bit-flip rest q v ∙ ap (λ b. bit rest v ⊕ b) (other-place d) ∙ ⊕-zero (bit rest v))
+          ∙ sym (ap (λ m. bit m v) f ∙ bit-flip rest q v ∙ ap (λ b. bit rest v ⊕ b) (other-place d) ∙ ⊕-zero
+          (bit rest v))
 
 -- ---- one word: the numbers of `rest` are still to come
 pub record Emitting (word base at : ℕ) (list₀ list : List ℕ) (rest end : ℕ) : Type 0 where
@@ -125,7 +127,8 @@ none-written marks list e = record {
 
 module _ {marks list₀ list : List ℕ} {w end : ℕ} (W : Written marks list₀ list w end) where
   module _ (more : w < 512) where
-    word-more : selected (w * 64 + 64) (marked marks) ≡ selected (w * 64) (marked marks) ++ numbersIn (w * 64) (getD marks w 0)
+    word-more : selected (w * 64 + 64) (marked marks) ≡ selected (w * 64) (marked marks) ++ numbersIn (w * 64)
+        (getD marks w 0)
     unfolding marked
     word-more =
         selected-add (w * 64) 64 (marked marks)
@@ -198,4 +201,5 @@ orbit-written {n} {g} {list} {marks′} {list′} {list″} {r} S (e, f) =
     behind =
         ext-getD 0 (drop (length t) list′) (drop (length t) list)
         (length-drop (length t) list′ ∙ ap (λ k. k - length t) (S .places) ∙ sym (length-drop (length t) list))
-        (λ i l. getD-drop (length t) list′ i 0 ∙ S .past (length t + i) (omega arith) ∙ sym (getD-drop (length t) list i 0))
+        (λ i l. getD-drop (length t) list′ i 0 ∙ S .past (length t + i) (omega arith) ∙ sym
+        (getD-drop (length t) list i 0))

@@ -31,7 +31,8 @@ use Rattle.parity.specs.internal.Lists.{AsLong, Changed, listIn}
 -- commutation reads the letters alone
 pub letters-commute : (p g : Generator) → anticommute 64 (generatorOf p) (generatorOf g)
     ≡ anticommute 64 (row i⁰ (p .z) (p .x)) (row i⁰ (g .z) (g .x))
-letters-commute p g = anticommute-letters 64 (row i⁰ (p .z) (p .x)) (row i⁰ (g .z) (g .x)) (minus (p .minus)) (minus (g .minus))
+letters-commute p g = anticommute-letters 64 (row i⁰ (p .z) (p .x)) (row i⁰ (g .z) (g .x)) (minus (p .minus))
+    (minus (g .minus))
 
 -- it commutes with the row of two words
 pub left-alone : (s : Bool) (a b z x : ℕ) (p : Pauli) → anticommute 64 (row i⁰ a b) (row i⁰ z x) ≡ false
@@ -62,7 +63,8 @@ module _ (signs z x : List ℕ) (ez : length z ≡ length signs) (ex : length x 
       ∙ ap₂ (signedRow (isOdd s)) (getD-set-same z j a 0 (subst (λ m. j < m) (sym ez) h))
       (getD-set-same x j b 0 (subst (λ m. j < m) (sym ex) h))
 
-  pub stored-elsewhere : (i : ℕ) → i ≢ j → rows (listIn (set signs j s) (set z j a) (set x j b)) i ≡ rows (listIn signs z x) i
+  pub stored-elsewhere : (i : ℕ) → i ≢ j → rows (listIn (set signs j s) (set z j a) (set x j b)) i ≡ rows
+      (listIn signs z x) i
   stored-elsewhere i d =
       ap (λ v. signedRow (isOdd v) (getD (set z j a) i 0) (getD (set x j b) i 0)) (getD-set-other signs j i s 0 d)
       ∙ ap₂ (signedRow (isOdd (getD signs i 0))) (getD-set-other z j i a 0 d) (getD-set-other x j i b 0 d)
@@ -85,7 +87,8 @@ module _ (z x g : ℕ) (old : GeneratorList) where
   pub record ChangedBelow (signs zs xs : List ℕ) (j : ℕ) : Type 0 where
     pub long : AsLong old (listIn signs zs xs)
     pub done : (i : ℕ) → i < j
-        → rows (listIn signs zs xs) i ≡ mul 64 (rows old i) (chosen (anticommute 64 (rows old i) (signedRow false z x)) (rows old g))
+        → rows (listIn signs zs xs) i ≡ mul 64 (rows old i) (chosen (anticommute 64 (rows old i) (signedRow false z x))
+        (rows old g))
     pub rest : (i : ℕ) → j ≤ i → rows (listIn signs zs xs) i ≡ rows old i
 
   pub none-changed : ChangedBelow (old .signs) (old .z) (old .x) 0
@@ -96,7 +99,8 @@ module _ (z x g : ℕ) (old : GeneratorList) where
         rest = λ i l. refl;
       }
 
-  module _ (ez : length (old .z) ≡ length (old .signs)) (ex : length (old .x) ≡ length (old .signs)) (signs zs xs : List ℕ)
+  module _ (ez : length (old .z) ≡ length (old .signs)) (ex : length (old .x) ≡ length (old .signs))
+      (signs zs xs : List ℕ)
       (j : ℕ) (B : ChangedBelow signs zs xs j) where
     pub z-long : length zs ≡ length signs
     z-long = B .long .z-length ∙ ez ∙ sym (B .long .signs-length)
@@ -117,8 +121,10 @@ module _ (z x g : ℕ) (old : GeneratorList) where
                 x-length = length-set xs j b ∙ B .long .x-length;
               };
           done = below-more _ j
-              (λ i l. stored-elsewhere signs zs xs z-long x-long j h s a b i (λ p. absurd (omega (arith, l, p))) ∙ B .done i l)
-              (stored-here signs zs xs z-long x-long j h s a b ∙ ap (λ t. signedRow t a b) (ap isOdd es ∙ isOdd-digit m) ∙ e
+              (λ i l. stored-elsewhere signs zs xs z-long x-long j h s a b i (λ p. absurd (omega (arith, l, p))) ∙
+              B .done i l)
+              (stored-here signs zs xs z-long x-long j h s a b ∙ ap (λ t. signedRow t a b) (ap isOdd es ∙ isOdd-digit m)
+              ∙ e
               ∙ ap goneInto (B .rest j (omega arith)));
           rest = λ i l. stored-elsewhere signs zs xs z-long x-long j h s a b i (λ p. absurd (omega (arith, l, p)))
               ∙ B .rest i (omega arith);
@@ -139,7 +145,8 @@ module _ (z x g : ℕ) (old : GeneratorList) where
         }
       where
         put-at-g : rows (listIn (set signs g s) (set zs g z) (set xs g x)) g ≡ signedRow m z x
-        put-at-g = stored-here signs zs xs z-long x-long g hg s z x ∙ ap (λ t. signedRow t z x) (ap isOdd es ∙ isOdd-digit m)
+        put-at-g = stored-here signs zs xs z-long x-long g hg s z x ∙ ap (λ t. signedRow t z x)
+            (ap isOdd es ∙ isOdd-digit m)
 
         at : (i : ℕ) → i < length (old .signs) → Dec (i ≡ g)
             → rows (listIn (set signs g s) (set zs g z) (set xs g x)) i ≡ projected 64 (rows old) (signedRow m z x) g i
@@ -152,5 +159,6 @@ module _ (z x g : ℕ) (old : GeneratorList) where
           where
             named : (i : ℕ) → i ≢ g → anticommute 64 (rows old i) (signedRow false z x)
                 ≡ (anticommute 64 (rows old i) (signedRow m z x) && not (eqb i g))
-            named i d = row-anticommute 64 (rows old i) z x false m ∙ sym (ap (λ t. anticommute 64 (rows old i) (signedRow m z x) && not t) (other-place d)
+            named i d = row-anticommute 64 (rows old i) z x false m ∙ sym
+                (ap (λ t. anticommute 64 (rows old i) (signedRow m z x) && not t) (other-place d)
                 ∙ and-true (anticommute 64 (rows old i) (signedRow m z x)))

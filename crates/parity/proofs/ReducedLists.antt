@@ -1,4 +1,5 @@
--- The generators of a record, changed by a row that is not determined: they can be reduced, and their reduced record is that
+-- The generators of a record, changed by a row that is not determined: they can be reduced, and their reduced record is
+-- that
 -- of the group after the measurement.
 use mathlib.Core.Bool.{Bool, _&&_, cond, false, not, true}
 use mathlib.Core.List.{List}
@@ -81,7 +82,8 @@ module _ (l : LentRecord) (A : AcceptedRecord l) (z x : ℕ) (hz : z < 2 ^ (l .n
     others-commute : (i : ℕ) → i < length (old .signs) → anticommute 64 (rows old i) (rows old g) ≡ false
     others-commute i h =
         let k = subst (λ m. i < m) es h in
-        ap₂ (anticommute 64) (same i k) (same g found-below) ∙ anticommute-wide n 64 (A .upto) (within i k) (within g found-below)
+        ap₂ (anticommute 64) (same i k) (same g found-below) ∙ anticommute-wide n 64 (A .upto) (within i k)
+        (within g found-below)
         ∙ A .proper .commuting .commute i g k found-below
 
     -- ---- the list afterwards
@@ -94,14 +96,16 @@ module _ (l : LentRecord) (A : AcceptedRecord l) (z x : ℕ) (hz : z < 2 ^ (l .n
               (put-same _ g P ∙ sym (put-same _ g P))
           at (no d) = put-other _ g P i d
               ∙ ap₂ (λ p r. mul 64 p (chosen (anticommute 64 p P && not (eqb i g)) r)) (same i h) (same g found-below)
-              ∙ mul-wide n 64 (A .upto) (within i h) (chosen-within n (anticommute 64 (R i) P && not (eqb i g)) (within g found-below))
+              ∙ mul-wide n 64 (A .upto) (within i h) (chosen-within n (anticommute 64 (R i) P && not (eqb i g))
+              (within g found-below))
               ∙ ap (λ t. mul n (R i) (chosen (t && not (eqb i g)) (R g)))
               (anticommute-wide n 64 (A .upto) (within i h) row-within)
               ∙ sym (put-other _ g P i d)
 
       changed-row : (i : ℕ) → i < n → rows new i ≡ rowMeasured n R z x b i
       changed-row i h = C .row i (subst (λ m. i < m) (sym es) h) ∙ narrow i h
-          ∙ ap (λ v. projected n R P v i) found ∙ ap (λ S. S i) (sym (row-projected n R (A .proper) z x hz hx open-yet b))
+          ∙ ap (λ v. projected n R P v i) found ∙ ap (λ S. S i)
+          (sym (row-projected n R (A .proper) z x hz hx open-yet b))
 
       before : Proper n (rowMeasured n R z x b)
       before = row-proper n R (A .proper) z x hz hx b
@@ -166,29 +170,32 @@ module _ (l : LentRecord) (A : AcceptedRecord l) (z x : ℕ) (hz : z < 2 ^ (l .n
   pub search-ready : length xs ≡ length zs
   search-ready = xs-long ∙ sym zs-long
 
-  module _ (g : ℕ) (is : g ≡ first (length zs) (λ i. anticommute 64 (row i⁰ (getD zs i 0) (getD xs i 0)) (row i⁰ z x))) where
-    pub change-ready : ((length zs ≡ length signs) × (length xs ≡ length signs) × (g < length signs))
-        × ((i : ℕ) → i < length signs
-        → anticommute 64 (rows (listIn signs zs xs) i) (rows (listIn signs zs xs) g) ≡ false)
-    change-ready = (
-      (
-        zs-long ∙ sym signs-long,
-        xs-long ∙ sym signs-long,
-        subst (λ m. g < m) (sym signs-long)
-            (found-below l A z x hz hx is-open b (listIn signs zs xs) signs-long zs-long xs-long same g is),
-      ),
-      others-commute l A z x hz hx is-open b (listIn signs zs xs) signs-long zs-long xs-long same g is,
-    )
+  module _ (g : ℕ) (is : g ≡ first (length zs) (λ i. anticommute 64 (row i⁰ (getD zs i 0) (getD xs i 0)) (row i⁰ z x)))
+    where
+      pub change-ready : ((length zs ≡ length signs) × (length xs ≡ length signs) × (g < length signs))
+          × ((i : ℕ) → i < length signs
+          → anticommute 64 (rows (listIn signs zs xs) i) (rows (listIn signs zs xs) g) ≡ false)
+      change-ready = (
+        (
+          zs-long ∙ sym signs-long,
+          xs-long ∙ sym signs-long,
+          subst (λ m. g < m) (sym signs-long)
+              (found-below l A z x hz hx is-open b (listIn signs zs xs) signs-long zs-long xs-long same g is),
+        ),
+        others-commute l A z x hz hx is-open b (listIn signs zs xs) signs-long zs-long xs-long same g is,
+      )
 
-    module _ (signs′ zs′ xs′ : List ℕ) (C : Changed z x b g (listIn signs zs xs) (listIn signs′ zs′ xs′)) where
-      pub reduce-ready : Reducible (record { n = l .n; signs = signs′; z = zs′; x = xs′ })
-      reduce-ready = changed-reducible l A z x hz hx is-open b (listIn signs zs xs) signs-long zs-long xs-long same g is
-          (listIn signs′ zs′ xs′) C
+      module _ (signs′ zs′ xs′ : List ℕ) (C : Changed z x b g (listIn signs zs xs) (listIn signs′ zs′ xs′)) where
+        pub reduce-ready : Reducible (record { n = l .n; signs = signs′; z = zs′; x = xs′ })
+        reduce-ready = changed-reducible l A z x hz hx is-open b (listIn signs zs xs) signs-long zs-long xs-long same g is
+            (listIn signs′ zs′ xs′) C
 
-      pub reduced-written : (r : Bool) (nb cs nb′ cs′ : List ℕ) → r ≡ not (dependent (l .n) (rows (listIn signs′ zs′ xs′)))
-          → nb′ ≡ cond r (neighbourWords (l .n) (reduced (l .n) (rows (listIn signs′ zs′ xs′)))) nb
-          → cs′ ≡ cond r (codeNumbers (l .n) (reduced (l .n) (rows (listIn signs′ zs′ xs′)))) cs
-          → (nb′ ≡ neighbourWords (l .n) (reduced (l .n) (rowMeasured (l .n) (heldRows l) z x b)))
-          × (cs′ ≡ codeNumbers (l .n) (reduced (l .n) (rowMeasured (l .n) (heldRows l) z x b)))
-      reduced-written = changed-written l A z x hz hx is-open b (listIn signs zs xs) signs-long zs-long xs-long same g is
-          (listIn signs′ zs′ xs′) C
+        pub reduced-written : (r : Bool) (nb cs nb′ cs′ : List ℕ) → r ≡ not
+            (dependent (l .n) (rows (listIn signs′ zs′ xs′)))
+            → nb′ ≡ cond r (neighbourWords (l .n) (reduced (l .n) (rows (listIn signs′ zs′ xs′)))) nb
+            → cs′ ≡ cond r (codeNumbers (l .n) (reduced (l .n) (rows (listIn signs′ zs′ xs′)))) cs
+            → (nb′ ≡ neighbourWords (l .n) (reduced (l .n) (rowMeasured (l .n) (heldRows l) z x b)))
+            × (cs′ ≡ codeNumbers (l .n) (reduced (l .n) (rowMeasured (l .n) (heldRows l) z x b)))
+        reduced-written = changed-written l A z x hz hx is-open b (listIn signs zs xs) signs-long zs-long xs-long same g
+            is
+            (listIn signs′ zs′ xs′) C

@@ -27,7 +27,8 @@ module _ (words codes : List ℕ) (z x : ℕ) (bit : Bool) (words′ codes′ : 
       → RowLeft words codes z x bit words′ codes′ → RowInPlace words codes z x bit (Chosen bit) words′ codes′
   left-chosen e L = record {
     after = L;
-    answer = sym (ap (λ d. cond d (Chosen bit) (Determined (eqb (rowValue n R z x) 1))) (eq-eqb (rowValue n R z x) 2 e));
+    answer = sym (ap (λ d. cond d (Chosen bit) (Determined (eqb (rowValue n R z x) 1)))
+        (eq-eqb (rowValue n R z x) 2 e));
   }
 
   pub left-determined : (value : ℕ) → value ≡ rowValue (length words) (heldRows (recordIn words codes)) z x

@@ -65,7 +65,8 @@ module _ (n : ℕ) (rows : ℕ → Pauli) (L : Proper n rows) (z x : ℕ) (hz : 
               (λ j k. row-anticommute n (rows j) z x false b ∙ none j k)) [ inl a ↦ h .0 a | inr a ↦ h .1 a ])
         ]
 
-    pub row-projected : rowMeasured n rows z x b ≡ projected n rows (signedRow b z x) (firstAgainst n rows (signedRow b z x))
+    pub row-projected : rowMeasured n rows z x b ≡ projected n rows (signedRow b z x)
+        (firstAgainst n rows (signedRow b z x))
     row-projected = ap (λ d. cond d (projected n rows P g) rows) open-yet
 
     pub row-group : (p : Pauli) → InGroup n n (rowMeasured n rows z x b) p ↔ Measured n rows (signedRow b z x) p

@@ -46,7 +46,8 @@ module _ (n : ℕ) (rows : ℕ → Pauli) (L : Proper n rows) (z x : ℕ) (hz : 
   pub letter-outcome : (b : Bool) → rowOutcome n rows z x b ≡ measuredOutcome n rows l q b
   unfolding stabilizerValue
   letter-outcome b = by-members (m false) (m true) b not-both
-      ∙ ap₂ (λ p r. cond (p || r) (Determined (cond (p || r) r b)) (Chosen (cond (p || r) r b))) (same false) (same true)
+      ∙ ap₂ (λ p r. cond (p || r) (Determined (cond (p || r) r b)) (Chosen (cond (p || r) r b))) (same false)
+      (same true)
 
   pub letter-rows : (b : Bool) → rowMeasured n rows z x b ≡ measuredRows n rows l q b
   unfolding stabilizerValue

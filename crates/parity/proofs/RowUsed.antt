@@ -1,4 +1,5 @@
--- A used qubit on which the row does not act stays as it is: its Pauli commutes with the row, and so in the new record it
+-- A used qubit on which the row does not act stays as it is: its Pauli commutes with the row, and so in the new record
+-- it
 -- has no neighbour and the code that it had.
 use mathlib.Core.Bool.{Bool, false, or-false, true}
 use mathlib.Core.Path.{ap, ap₂, refl, subst, sym, _∙_, _≡_}
@@ -68,7 +69,8 @@ module _ (u : UsedRecord) (z x b : ℕ) (F : RowReady u z x b) (idle : IdleOnUse
 
     -- its Pauli is a generator, and in the new group
     still-in : InGroup n n R (single (image k X) q (k .sx))
-    still-in = row-single n (heldRows (u .held)) (F .held .proper) z x (F .z-below) (F .x-below) s q (image k X) (k .sx) below
+    still-in = row-single n (heldRows (u .held)) (F .held .proper) z x (F .z-below) (F .x-below) s q (image k X) (k .sx)
+        below
         (idle q marked .0) (idle q marked .1)
         (subst (InGroup n n (heldRows (u .held))) (alone-row n (heldRecord (u .held)) (F .held .simple) q below out)
         (in-row n n (heldRows (u .held)) q below))

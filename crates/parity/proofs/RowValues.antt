@@ -45,5 +45,6 @@ module _ (n : ℕ) (rows : ℕ → Pauli) (L : Proper n rows) (z x : ℕ) (hz : 
 
 -- "The identity row is determined, 0": it is in every group
 pub identity-value : (n : ℕ) (rows : ℕ → Pauli) → Proper n rows → rowValue n rows 0 0 ≡ 0
-identity-value n rows L = value-plus n rows L (signedRow false 0 0) refl (row-of-words n 0 0 false (pow-pos n) (pow-pos n)) .1
+identity-value n rows L = value-plus n rows L (signedRow false 0 0) refl
+    (row-of-words n 0 0 false (pow-pos n) (pow-pos n)) .1
     (subst (InGroup n n rows) (sym (Pauli-path refl zero-bit zero-bit)) (in-identity n n rows))

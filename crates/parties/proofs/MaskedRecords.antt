@@ -92,7 +92,8 @@ module _ (word g : ℕ) (u : UsedRecord) (H : Apart word u) where
       tabled-passes (u .held .n) _ _ _ (record {
         positive = A .positive;
         upto = A .upto;
-        words = λ j l. by-test (λ v. v < 2 ^ (u .held .n)) (s j) _ _ (λ _. A .words-below j) (λ _. pow-pos (u .held .n));
+        words = λ j l. by-test (λ v. v < 2 ^ (u .held .n)) (s j) _ _ (λ _. A .words-below j)
+            (λ _. pow-pos (u .held .n));
         codes = λ q l. by-test (λ v. v < 24) (s q) _ _ (λ _. A .codes-below q) (λ _. lit< tt);
         symmetric = λ i j k l. bit-cond (s i) (getD (u .held .neighbours) i 0) j ∙ kept i j
             ∙ sym (bit-cond (s j) (getD (u .held .neighbours) j 0) i);

@@ -32,10 +32,13 @@ pub masked-same : (s : Word) (a b : UsedRecord) → SameIn s a b → masked s a 
 masked-same s a b S = λ j. record {
   held = record {
     n = S .count j;
-    neighbours = (tabulate-cong (a .held .n) _ _ (λ q l. where-true (s q) 0 (S .word q l)) ∙ ap (λ n. tabulate n (λ q. cond (s q) (getD (b .held .neighbours) q 0) 0)) (S .count)) j;
-    codes = (tabulate-cong (a .held .n) _ _ (λ q l. where-true (s q) 8 (S .code q l)) ∙ ap (λ n. tabulate n (λ q. cond (s q) (getD (b .held .codes) q 0) 8)) (S .count)) j;
+    neighbours = (tabulate-cong (a .held .n) _ _ (λ q l. where-true (s q) 0 (S .word q l)) ∙ ap
+        (λ n. tabulate n (λ q. cond (s q) (getD (b .held .neighbours) q 0) 0)) (S .count)) j;
+    codes = (tabulate-cong (a .held .n) _ _ (λ q l. where-true (s q) 8 (S .code q l)) ∙ ap
+        (λ n. tabulate n (λ q. cond (s q) (getD (b .held .codes) q 0) 8)) (S .count)) j;
   };
-  used = (word-cong (a .held .n) _ _ (λ q l. both-where (s q) (S .used q l)) ∙ ap (λ n. wordOf n (λ q. s q && bit (b .used) q)) (S .count)) j;
+  used = (word-cong (a .held .n) _ _ (λ q l. both-where (s q) (S .used q l)) ∙ ap
+      (λ n. wordOf n (λ q. s q && bit (b .used) q)) (S .count)) j;
 }
 
 -- ---- a vertex of a merged record

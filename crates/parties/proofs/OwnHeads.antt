@@ -1,4 +1,5 @@
--- The heads of a party's four places in a store of eight, after a place of the eight is written or made free; a party above
+-- The heads of a party's four places in a store of eight, after a place of the eight is written or made free; a party
+-- above
 -- 1 has none.
 use mathlib.Core.List.{[], List}
 use mathlib.Core.Logic.{inl, inr, _⊎_}
@@ -105,9 +106,11 @@ module _ (g p n name used : ℕ) (heads : List ℕ) (lg : g < 2) (lp : p < 4) wh
   headed-own =
       own-word g p 2 lg lp (omega arith) (set (set heads at n) (at + 1) name) (at + 2) used (omega arith)
       (3 * p + 2) (omega arith)
-      ∙ ap (λ l. set l (3 * p + 2) used) (own-word g p 1 lg lp (omega arith) (set heads at n) (at + 1) name (omega arith)
+      ∙ ap (λ l. set l (3 * p + 2) used) (own-word g p 1 lg lp (omega arith) (set heads at n) (at + 1) name
+      (omega arith)
       (3 * p + 1) (omega arith)
-      ∙ ap (λ l. set l (3 * p + 1) name) (own-word g p 0 lg lp (omega arith) heads at n (omega arith) (3 * p) (omega arith)))
+      ∙ ap (λ l. set l (3 * p + 1) name) (own-word g p 0 lg lp (omega arith) heads at n (omega arith) (3 * p)
+      (omega arith)))
 
   pub headed-other : (h : ℕ) → (h ≡ g → ⊥) → ownHeads h (headed (4 * g + p) n name used heads) ≡ ownHeads h heads
   headed-other h ne =
@@ -123,4 +126,5 @@ freed-own-heads g p lg lp heads =
 
 pub freed-other-heads : (g p : ℕ) → g < 2 → p < 4 → (h : ℕ) → (h ≡ g → ⊥) → (heads : List ℕ)
     → ownHeads h (set heads (3 * (4 * g + p)) 0) ≡ ownHeads h heads
-freed-other-heads g p lg lp h ne heads = other-word g p 0 lg lp (omega arith) heads (3 * (4 * g + p)) 0 (omega arith) h ne
+freed-other-heads g p lg lp h ne heads = other-word g p 0 lg lp (omega arith) heads (3 * (4 * g + p)) 0 (omega arith) h
+    ne

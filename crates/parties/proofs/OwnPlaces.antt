@@ -1,4 +1,5 @@
--- The four places of a party in a store of eight, after a place of the eight is written: a place of the party is written
+-- The four places of a party in a store of eight, after a place of the eight is written: a place of the party is
+-- written
 -- there, and a place of the other party leaves them.
 use mathlib.Core.List.{_++_, List, append-assoc}
 use mathlib.Core.Logic.{inl, inr}
@@ -164,7 +165,8 @@ module _ (g p : ℕ) (st : Store) (lg : g < 2) (lp : p < 4) (L : EightLong st) w
   place-own few = λ j. record {
     held = record {
       n = count-own j;
-      neighbours = (ap (λ n. partAt (4 * g + p) n (st .neighbours)) count-own ∙ part-at _ few (st .neighbours) (L .words)) j;
+      neighbours = (ap (λ n. partAt (4 * g + p) n (st .neighbours)) count-own ∙ part-at _ few (st .neighbours)
+          (L .words)) j;
       codes = (ap (λ n. partAt (4 * g + p) n (st .codes)) count-own ∙ part-at _ few (st .codes) (L .codes)) j;
     };
     used = head-at (3 * (4 * g + p) + 2) (3 * p + 2) (omega arith) (omega (arith, lp)) j;

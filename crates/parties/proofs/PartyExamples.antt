@@ -65,7 +65,8 @@ second-complement = partyAfter 2 1 first-complement (complementOf 1)
 
 -- a complementation reduces nothing, a gate the vertices of its party alone
 pub party-leaves :
-    second-complement .held .codes ++ (partyAfter 2 1 second-complement (gateWith 1 0)) .held .codes ≡ 20 ∷ 20 ∷ 20 ∷ 8 ∷ []
+    second-complement .held .codes ++ (partyAfter 2 1 second-complement (gateWith 1 0)) .held .codes ≡ 20 ∷ 20 ∷ 20 ∷ 8
+    ∷ []
 unfolding fold put bit wordOf some every first power mul anticommute inverse act tabulate firstFitting
     reaching clashing dependent notSimple isColumnDependent reducedRow graphOf ysOf minusesOf usedWrong
 party-leaves = refl

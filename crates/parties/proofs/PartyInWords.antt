@@ -38,7 +38,15 @@ use Rattle.operations.specs.Used.{UsedRecord, usedArgumentsOf, withUsed}
 use Rattle.words.proofs.Flags.{neither, sameBit-true, true-sameBit}
 use Rattle.words.specs.Bits.{bit, digit, sameBit}
 use Rattle.parties.specs.PartyLines.{partyLines, outsider, withParty}
-use Rattle.parties.specs.PartyStores.{partyNamedLines, partySaveLines, heldOut, otherCount, ownLines, ownPlaces, sharedLines}
+use Rattle.parties.specs.PartyStores.{
+  partyNamedLines,
+  partySaveLines,
+  heldOut,
+  otherCount,
+  ownLines,
+  ownPlaces,
+  sharedLines,
+}
 use Rattle.parties.specs.PartySentences.{
   EdgeBetween,
   Elsewhere,
@@ -114,7 +122,8 @@ module _ (word g : ℕ) (u : UsedRecord) where
                       λ e. (
                         refl,
                         (
-                          or-decides (edge-between word u) (O (low (((recordCodes (u .held) || six) || false) || false) e6)),
+                          or-decides (edge-between word u) (O
+                              (low (((recordCodes (u .held) || six) || false) || false) e6)),
                           λ e. (
                             refl,
                             (or-none (or-none (or-none (or-none E))), λ e. (refl, (or-none (or-none F), λ e. tt))),
@@ -145,7 +154,8 @@ module _ (word g : ℕ) (u : UsedRecord) where
       (λ l. or-decides (other-parties word g u a l) (other-parties word g u b l))
       (or-decides (at-most (u .held .n) a) (or-decides (at-most (u .held .n) b) (equal a b))) (or-decides itself itself)
 
-  pub complement-in-words : (a : ℕ) → Matches (partyLines word g u (complementOf a)) (partyComplementSentences word g u a)
+  pub complement-in-words : (a : ℕ) → Matches (partyLines word g u (complementOf a))
+      (partyComplementSentences word g u a)
   complement-in-words a = party-in-words _ _ _ _ _ _ _ _ (or-none (code-above-23 (u .held)))
       (other-parties word g u a) (at-most (u .held .n) a) itself
 
@@ -182,7 +192,8 @@ module _ (word g : ℕ) (u : UsedRecord) (st : Store) where
   abbrev own : Store
   own = ownPlaces g st
 
-  other-count : Decides (otherCount own) ((i : ℕ) × (i < 4) × ((isHeld (own .heads) i ≡ true) × (countAt (own .heads) i ≢ 64)))
+  other-count : Decides (otherCount own) ((i : ℕ) × (i < 4) ×
+      ((isHeld (own .heads) i ≡ true) × (countAt (own .heads) i ≢ 64)))
   other-count = some-decides 4 _ _ (λ i. and-decides (itself {a = isHeld (own .heads) i})
       (not-decides (equal (countAt (own .heads) i) 64)))
 
@@ -215,8 +226,10 @@ module _ (word g : ℕ) (u : UsedRecord) (st : Store) where
                   λ e6. (
                     refl,
                     (
-                      or-none (or-none (or-decides (of-7 u) (or-none (or-decides (or-none (or-none (held 4 own 7 _ of-7)))
-                          (or-decides (twice 4 (own .heads)) (held-out (low (ofRecord u 6 || holdsLine 6 (ownLines (inParty word g) g st)) e6))))))),
+                      or-none (or-none (or-decides (of-7 u) (or-none
+                          (or-decides (or-none (or-none (held 4 own 7 _ of-7)))
+                          (or-decides (twice 4 (own .heads))
+                          (held-out (low (ofRecord u 6 || holdsLine 6 (ownLines (inParty word g) g st)) e6))))))),
                       λ e. (refl, (edge-between word u, λ e. tt)),
                     ),
                   ),

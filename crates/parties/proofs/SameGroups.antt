@@ -120,6 +120,7 @@ module _ (word g : ℕ) (u : UsedRecord) (H : Apart word u) (a : ℕ)
           | inl l ↦ codes-rewritten (u .held .n) (inParty word g) _ _ (mask-of word g u H) a below own _ T q l
           | inr l ↦ code-above ((partyAfter word g u o) .held)
               (apart-record word _ (party-apart word g u H o (complement-op a) e)) q l
-              ∙ sym (complement-above (u .held .n) (heldRecord (u .held)) (B .simple) a below (code-above (u .held) B) q l)
+              ∙ sym (complement-above (u .held .n) (heldRecord (u .held)) (B .simple) a below (code-above (u .held) B) q
+              l)
         ];
       }

@@ -30,7 +30,8 @@ merged s a u =
     record {
       held = record {
         n = u .held .n;
-        neighbours = tabulate (u .held .n) (λ q. cond (s q) (getD (a .held .neighbours) q 0) (getD (u .held .neighbours) q 0));
+        neighbours = tabulate (u .held .n) (λ q. cond (s q) (getD (a .held .neighbours) q 0)
+            (getD (u .held .neighbours) q 0));
         codes = tabulate (u .held .n) (λ q. cond (s q) (getD (a .held .codes) q 0) (getD (u .held .codes) q 0));
       };
       used = wordOf (u .held .n) (λ q. cond (s q) (bit (a .used) q) (bit (u .used) q));

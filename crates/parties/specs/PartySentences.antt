@@ -8,7 +8,15 @@ use lib.ListN.{getD}
 use Rattle.buffers.specs.Sentences.{BadCount, Sentence, sentence}
 use Rattle.record.specs.RecordSentences.{CodeAbove23, RecordMisfits}
 use Rattle.store.specs.Places.{Store, countAt, isHeld}
-use Rattle.store.specs.StoreSentences.{HeldCodes, HeldCount, NameHeldTwice, UnknownName, AllOtherNames, SomeHeld, StoreMisfits}
+use Rattle.store.specs.StoreSentences.{
+  HeldCodes,
+  HeldCount,
+  NameHeldTwice,
+  UnknownName,
+  AllOtherNames,
+  SomeHeld,
+  StoreMisfits,
+}
 use Rattle.operations.specs.Used.{UsedRecord}
 use Rattle.operations.specs.UsedSentences.{Contradicted, IsUsed, MeasureMisfits, NoRecord, StrayBit}
 use Rattle.words.specs.Bits.{bit, digit}
@@ -80,13 +88,15 @@ NeighbourOutside word g u = (j : ℕ) × (j < u .held .n) × ((k : ℕ) × (k < 
 
 -- 7: of the states held there; "a held state with a neighbour outside it gives 7"
 abbrev pub OwnWrong : ℕ → ℕ → Store → Type 0
-OwnWrong word g own = SomeHeld 4 own NoRecord ⊎ (NameHeldTwice 4 (own .heads) ⊎ SomeHeld 4 own (NeighbourOutside word g))
+OwnWrong word g own = SomeHeld 4 own NoRecord ⊎ (NameHeldTwice 4 (own .heads) ⊎ SomeHeld 4 own
+    (NeighbourOutside word g))
 
 -- the lines that the three share
 abbrev pub sharedSentences : ℕ → ℕ → UsedRecord → Store → List Sentence
 sharedSentences word g u st =
     sentence 2 ((BadCount (u .held .n) ⊎ OwnCount (ownPlaces g st)) ⊎ (u .held .n ≢ 64))
-    ∷ sentence 4 (RecordMisfits (u .held) ⊎ (SomeHeld 4 (ownPlaces g st) (λ v. RecordMisfits (v .held)) ⊎ StoreMisfits 8 st))
+    ∷ sentence 4 (RecordMisfits (u .held) ⊎ (SomeHeld 4 (ownPlaces g st) (λ v. RecordMisfits (v .held)) ⊎ StoreMisfits 8
+    st))
     ∷ sentence 5 (StrayBit u ⊎ SomeHeld 4 (ownPlaces g st) StrayBit)
     ∷ sentence 6 ((CodeAbove23 (u .held) ⊎ HeldCodes 4 (ownPlaces g st)) ⊎ (1 < g))
     ∷ sentence 7 (NoRecord u ⊎ OwnWrong word g (ownPlaces g st)) ∷ sentence 19 (EdgeBetween word u) ∷ []

@@ -1,4 +1,5 @@
--- "Each holds four named states of its own part" (02, §13): the places of a party in one store of eight, the lines of its
+-- "Each holds four named states of its own part" (02, §13): the places of a party in one store of eight, the lines of
+-- its
 -- save, return and forget, and what each leaves.
 use mathlib.Core.Bool.{_&&_, Bool, not, _||_}
 use mathlib.Core.List.{_++_, List, [], _∷_}
@@ -40,7 +41,8 @@ heldOut s own = some 4 (λ i. isHeld (own .heads) i && reachesOut s (placeAt own
 abbrev pub ownLines : Word → ℕ → Store → List Refusal
 ownLines s g st =
     withTest 7 (namedTwice 4 ((ownPlaces g st) .heads) || heldOut s (ownPlaces g st))
-    (withTest 4 (storeLengths 8 st) (withTest 2 (otherCount (ownPlaces g st)) (recordTests (ofHeld 4 (ownPlaces g st)))))
+    (withTest 4 (storeLengths 8 st) (withTest 2 (otherCount (ownPlaces g st))
+    (recordTests (ofHeld 4 (ownPlaces g st)))))
 
 -- the lines that save, return and forget share: a line holds where it does of the record or of the store; then 19
 abbrev pub sharedLines : ℕ → ℕ → UsedRecord → Store → List Refusal

@@ -38,7 +38,8 @@ module _ (own : Store) (few : otherCount own ≡ false) where
 -- the test at place i: its n, and its 64 neighbour words
 pub out-here : (s : Word) (heads nb : List ℕ)
     → otherCount (record { heads = heads; neighbours = nb; codes = [] }) ≡ false
-    → (i n : ℕ) → i < 4 → n ≡ countAt heads i → (b : Bool) → b ≡ reachesOut s (usedRecord 64 (take (64 * i + 64 - 64 * i) (drop (64 * i) nb)) [] 0) → (not (eqb n 0) && b)
+    → (i n : ℕ) → i < 4 → n ≡ countAt heads i → (b : Bool) → b ≡ reachesOut s
+    (usedRecord 64 (take (64 * i + 64 - 64 * i) (drop (64 * i) nb)) [] 0) → (not (eqb n 0) && b)
     ≡ (isHeld heads i && reachesOut s (placeAt (record { heads = heads; neighbours = nb; codes = [] }) i))
 out-here s heads nb few i n l en b eb =
     ap₂ (λ m c. not (eqb m 0) && c) en eb

@@ -42,6 +42,7 @@ module _ (i own : ℕ) (nb cs : List ℕ) where
       ((merged (bit own) (of64 (partAt i 64 hn) (partAt i 64 hc) 0) (of64 nb cs 0)) .held)
   taken-at hn hc nb′ cs′ en ec = λ j. record {
     n = 64;
-    neighbours = (en ∙ ap (λ w. (merged (bit own) (of64 w cs 0) (of64 nb cs 0)) .held .neighbours) (from-place (64 * i) 64 hn)) j;
+    neighbours = (en ∙ ap (λ w. (merged (bit own) (of64 w cs 0) (of64 nb cs 0)) .held .neighbours)
+        (from-place (64 * i) 64 hn)) j;
     codes = (ec ∙ ap (λ w. (merged (bit own) (of64 nb w 0) (of64 nb cs 0)) .held .codes) (from-place (64 * i) 64 hc)) j;
   }

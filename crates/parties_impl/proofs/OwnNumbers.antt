@@ -54,7 +54,8 @@ none-held s = refl
 pub none-counted : (g : ℕ) (heads : List ℕ) → 1 < g
     → false ≡ otherCount (ownPlaces g (record { heads = heads; neighbours = []; codes = [] }))
 unfolding some
-none-counted g heads l = sym (ap (λ h. otherCount (record { heads = h; neighbours = []; codes = [] })) (no-heads g heads l))
+none-counted g heads l = sym (ap (λ h. otherCount (record { heads = h; neighbours = []; codes = [] }))
+    (no-heads g heads l))
 
 module _ (s : Word) (g : ℕ) (st : Store) where
   abbrev own : Store

@@ -56,7 +56,8 @@ module _ (own : ℕ) (s : Word) (e : own ≡ wordOf 64 s) where
   masked-own u z = λ j. record {
     held = record {
       n = u .held .n;
-      neighbours = tabulate-cong (u .held .n) _ _ (λ q l. ap (λ b. cond b (getD (u .held .neighbours) q 0) 0) (at-own _ z q l)) j;
+      neighbours = tabulate-cong (u .held .n) _ _ (λ q l. ap (λ b. cond b (getD (u .held .neighbours) q 0) 0)
+          (at-own _ z q l)) j;
       codes = tabulate-cong (u .held .n) _ _ (λ q l. ap (λ b. cond b (getD (u .held .codes) q 0) 8) (at-own _ z q l)) j;
     };
     used = word-cong (u .held .n) _ _ (λ q l. ap (λ b. b && bit (u .used) q) (at-own _ z q l)) j;
@@ -66,8 +67,10 @@ module _ (own : ℕ) (s : Word) (e : own ≡ wordOf 64 s) where
   merged-own a u z = λ j. record {
     held = record {
       n = u .held .n;
-      neighbours = tabulate-cong (u .held .n) _ _ (λ q l. ap (λ b. cond b (getD (a .held .neighbours) q 0) (getD (u .held .neighbours) q 0)) (at-own _ z q l)) j;
-      codes = tabulate-cong (u .held .n) _ _ (λ q l. ap (λ b. cond b (getD (a .held .codes) q 0) (getD (u .held .codes) q 0)) (at-own _ z q l)) j;
+      neighbours = tabulate-cong (u .held .n) _ _ (λ q l. ap
+          (λ b. cond b (getD (a .held .neighbours) q 0) (getD (u .held .neighbours) q 0)) (at-own _ z q l)) j;
+      codes = tabulate-cong (u .held .n) _ _ (λ q l. ap (λ b. cond b (getD (a .held .codes) q 0)
+          (getD (u .held .codes) q 0)) (at-own _ z q l)) j;
     };
     used = word-cong (u .held .n) _ _ (λ q l. ap (λ b. cond b (bit (a .used) q) (bit (u .used) q)) (at-own _ z q l)) j;
   }

@@ -14,7 +14,8 @@ use Rattle.record.specs.Graph.{Graph, Simple, complement}
 use Rattle.record.specs.internal.Joined.{closed, joinedBy}
 use Rattle.record.specs.internal.NeighbourWords.{SameGraph}
 
--- ---- at two places x and y; the bits say: J and K, x is j, k; J′ and K′, y is; E, x is y; t, they are joined; a and b,
+-- ---- at two places x and y; the bits say: J and K, x is j, k; J′ and K′, y is; E, x is y; t, they are joined; a and
+-- b,
 -- j is joined to x, y; c and d, k is. In a simple graph where j and k are joined:
 abbrev atEnd : Bool → Bool → Bool → Bool → Bool → Bool → Bool → Bool
 atEnd J a c t b E H = not J || (not a && (c && (sameBit t b && sameBit E H)))
@@ -48,7 +49,8 @@ edge-at jj jk kj e J K J′ K′ E t a b c d hjj hjk hkj h =
     ∙ ap₂ (λ v w. thrice false v w e J K J′ K′ E t a b c d) hjk hkj
     ∙ under (known J K J′ K′ E t a b c d) (thrice false true true e J K J′ K′ E t a b c d)
     (between J K J′ K′ E t a b c d) h
-    (bits 10 (λ J K J′ K′ E t a b c d. cond (known J K J′ K′ E t a b c d) (thrice false true true e J K J′ K′ E t a b c d)
+    (bits 10 (λ J K J′ K′ E t a b c d. cond (known J K J′ K′ E t a b c d)
+    (thrice false true true e J K J′ K′ E t a b c d)
     (between J K J′ K′ E t a b c d)) between tt J K J′ K′ E t a b c d)
 
 module _ (n : ℕ) (θ : Graph) (S : Simple n θ) (j k : ℕ) (edge : θ j k ≡ true) where

@@ -34,7 +34,8 @@ unfolding notSimple
 not-simple n θ = some-decides n _ _ (λ i. or-decides itself (some-decides n _ _ (λ j. not-decides
     (true-sameBit (θ i j) (θ j i), sameBit-true))))
 
-pub record-in-words : (l : LentRecord) (others six : Bool) (Four Six : Type 0) → Decides (recordLengths l || others) Four
+pub record-in-words : (l : LentRecord) (others six : Bool) (Four Six : Type 0) → Decides (recordLengths l || others)
+    Four
     → Decides (recordCodes l || six) Six
     → Matches (recordLines l others six)
     (fiveSentences (l .n) Four (StrayNeighbour l) Six (NoSimpleGraph (l .n) (graphIn (l .neighbours))))

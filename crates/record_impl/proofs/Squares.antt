@@ -35,7 +35,11 @@ pub copied-one : (i n : ℕ) (words rows : List ℕ) → n ≤ 64 → i < n → 
 copied-one i n words rows small l C =
     record {
       upto = omega arith;
-      copied = record { long = length-set rows i (getD words i 0) ∙ C .copied .long; same = λ j h. at j h (ℕ-discrete j i) };
+      copied = record {
+        long = length-set rows i (getD words i 0) ∙ C .copied .long;
+        same = λ j h. at j h
+            (ℕ-discrete j i);
+      };
     }
   where
     there : i < length rows
@@ -90,10 +94,12 @@ own-one i n words rows own place place′ small l S moved =
         ≡ (ltb c (i + 1) && bit (getD words c 0) c)
     at c (yes e) = subst (λ c. ((ltb c i && bit (getD words c 0) c) || (bit (getD words i 0) c && eqb c i))
         ≡ (ltb c (i + 1) && bit (getD words c 0) c)) (sym e)
-        (ap₂ (λ u v. (u && bit (getD words i 0) i) || (bit (getD words i 0) i && v)) (le-ltb i i (omega arith)) (same-place i)
+        (ap₂ (λ u v. (u && bit (getD words i 0) i) || (bit (getD words i 0) i && v)) (le-ltb i i (omega arith))
+        (same-place i)
         ∙ and-true (bit (getD words i 0) i)
         ∙ ap (λ b. b && bit (getD words i 0) i) (sym (lt-ltb i (i + 1) (omega arith))))
-    at c (no d) = ap₂ (λ u v. (u && bit (getD words c 0) c) || (bit (getD words i 0) c && v)) (sym (upto-other c i d)) (other-place d)
+    at c (no d) = ap₂ (λ u v. (u && bit (getD words c 0) c) || (bit (getD words i 0) c && v)) (sym (upto-other c i d))
+        (other-place d)
         ∙ ap (λ b. (ltb c (i + 1) && bit (getD words c 0) c) || b) (and-false (bit (getD words i 0) c))
         ∙ or-false (ltb c (i + 1) && bit (getD words c 0) c)
 

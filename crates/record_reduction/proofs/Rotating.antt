@@ -77,7 +77,8 @@ module _ (h z x : ℕ) (small : h < 2 ^ 64) (s : Bool) where
       ap (λ v. isOdd (ones v / 2))
       (bit-ext∞ _ _ (λ q. bit-and (bitXor z (bitAnd (bitXor z x) h)) (bitXor x (bitAnd (bitXor z x) h)) q
       ∙ ap₂ _&&_ (bit-swapped h z x small s z q) (bit-swapped h z x small s x q)
-      ∙ bits 3 (λ u v w. (u ⊕ ((u ⊕ v) && w)) && (v ⊕ ((u ⊕ v) && w))) (λ u v w. u && v) tt (bit z q) (bit x q) (bit h q)
+      ∙ bits 3 (λ u v w. (u ⊕ ((u ⊕ v) && w)) && (v ⊕ ((u ⊕ v) && w))) (λ u v w. u && v) tt (bit z q) (bit x q)
+      (bit h q)
       ∙ sym (bit-and z x q)))
 
   pub rotated-relative : relativeRow (s ⊕ isOdd (ones (bitAnd (bitAnd z x) h)))
@@ -132,7 +133,8 @@ module _ (rows₀ : List (List ℕ)) (signs₀ n h : ℕ) where
         here =
             ap₂ relativeRow
             (s i ∙ ap (λ t. bit signs i ⊕ (t && b)) (same-place i) ∙ ap (λ t. bit signs i ⊕ t) e)
-            (ap (λ v. getD v i []) r ∙ getD-set-same rows i _ [] (subst (λ k. i < k) (sym (D .long)) (lt-of-lt-of-le l hn)))
+            (ap (λ v. getD v i []) r ∙ getD-set-same rows i _ []
+            (subst (λ k. i < k) (sym (D .long)) (lt-of-lt-of-le l hn)))
             ∙ rotated-relative h (getD (getD rows i []) 0 0) (getD (getD rows i []) 1 0) small (bit signs i)
             ∙ ap (act 64 (hadamardWhere (bit h))) (D .rest i (le-refl i))
 
@@ -141,7 +143,8 @@ module _ (rows₀ : List (List ℕ)) (signs₀ n h : ℕ) where
       relative (bit signs) rows j ≡ act 64 (hadamardWhere (bit h)) (relative (bit signs₀) rows₀ j)
   rotate-end rows signs i D l far j = go (lt-or-ge j i)
     where
-      go : (j < i) ⊎ (i ≤ j) → relative (bit signs) rows j ≡ act 64 (hadamardWhere (bit h)) (relative (bit signs₀) rows₀ j)
+      go : (j < i) ⊎ (i ≤ j) → relative (bit signs) rows j ≡ act 64 (hadamardWhere (bit h))
+          (relative (bit signs₀) rows₀ j)
       go (inl k) = D .done j k
       go (inr k) =
           D .rest j k ∙ far j (le-trans l k)

@@ -220,7 +220,8 @@ withoutSign signs sign rest k = bit signs k ⊕ (sign && bit rest k)
 pub laid-on : (signs₀ signs named flips : ℕ) (sign : Bool) → ((k : ℕ) → bit flips k ≡ (sign && bit named k))
     → signs ≡ bitXor signs₀ flips → (k : ℕ) → withoutSign signs sign named k ≡ bit signs₀ k
 laid-on signs₀ signs named flips sign f e k =
-    ap (λ v. v ⊕ (sign && bit named k)) (ap (λ v. bit v k) e ∙ bit-xor signs₀ flips k ∙ ap (λ v. bit signs₀ k ⊕ v) (f k))
+    ap (λ v. v ⊕ (sign && bit named k)) (ap (λ v. bit v k) e ∙ bit-xor signs₀ flips k ∙ ap (λ v. bit signs₀ k ⊕ v)
+    (f k))
     ∙ bits 2 (λ u v. (u ⊕ v) ⊕ v) (λ u v. u) tt (bit signs₀ k) (sign && bit named k)
 
 -- row a is not named: its sign is the one that was laid

@@ -1,4 +1,5 @@
--- A party's observation has the lines of a gate at its qubit, and accepted it is the party's measurement with the outcome
+-- A party's observation has the lines of a gate at its qubit, and accepted it is the party's measurement with the
+-- outcome
 -- that it answers.
 use mathlib.Core.Bool.{Bool, cond, false, not, true, _||_}
 use mathlib.Core.List.{List}
@@ -54,7 +55,8 @@ module _ (word g : ℕ) (u : UsedRecord) (pauli q b : ℕ) where
 
   -- the lines are those of a gate
   pub like-a-gate : partyObserveLines word g u pauli q b ≡ partyLines word g u like
-  like-a-gate = ap (λ s. partyLinesAt word g u q (withUsed u (bit (u .used) q) (inPlaceLines (u .held) s (leb (u .held .n) q))))
+  like-a-gate = ap (λ s. partyLinesAt word g u q (withUsed u (bit (u .used) q)
+      (inPlaceLines (u .held) s (leb (u .held .n) q))))
       (like-six pauli b)
 
   pub record ObservedPasses : Type 0 where
@@ -89,7 +91,8 @@ module _ (word g : ℕ) (u : UsedRecord) (pauli q b : ℕ) where
         → measuredAnswer (u .held) pauli q b ≡ measuredAnswer ((masked (inParty word g) u) .held) pauli q b
     observed-alone H =
         let P = observed-passes-party in
-        let W = with-used-passes u (argumentLines (u .held) pauli q b) (in-place-counted (u .held) _ _) (bit (u .used) q) .0
+        let W = with-used-passes u (argumentLines (u .held) pauli q b) (in-place-counted (u .held) _ _)
+        (bit (u .used) q) .0
         (P .lines) in
         let h = none-holds (argumentLines (u .held) pauli q b) refl (W .0) in
         let six = neither (recordCodes (u .held)) _ (h .1 .1 .1 .0) .1 in

@@ -41,7 +41,8 @@ no-choice X true a z x = absurd (false≢true (sym x))
 no-choice Y true a z x = absurd (false≢true (sym x))
 no-choice Z true a z x = absurd (false≢true (sym z))
 
-module _ (n : ℕ) (r : GraphRecord) (S : Simple n (r .graph)) (q : ℕ) (hq : q < n) (alone : (j : ℕ) → r .graph q j ≡ false)
+module _ (n : ℕ) (r : GraphRecord) (S : Simple n (r .graph)) (q : ℕ) (hq : q < n)
+    (alone : (j : ℕ) → r .graph q j ≡ false)
     (k : Clifford) where
   abbrev rows : ℕ → Pauli
   rows = rowsOf n r
@@ -65,10 +66,12 @@ module _ (n : ℕ) (r : GraphRecord) (S : Simple n (r .graph)) (q : ℕ) (hq : q
   unfolding act
   same-row j d =
       Pauli-path (fold-ext i⁰ _+ᵖ_ n (λ t l. at imagePhase (λ c. refl) t (ℕ-discrete t q)))
-      (λ t. at (λ c a. zBit (image c a)) (λ c. refl) t (ℕ-discrete t q)) (λ t. at (λ c a. xBit (image c a)) (λ c. refl) t (ℕ-discrete t q))
+      (λ t. at (λ c a. zBit (image c a)) (λ c. refl) t (ℕ-discrete t q))
+      (λ t. at (λ c a. xBit (image c a)) (λ c. refl) t (ℕ-discrete t q))
     where
       at : {A : Type 0} {none : A} (f : Clifford → Letter → A) → ((c : Clifford) → f c I ≡ none) → (t : ℕ) → Dec (t ≡ q)
-          → f (put (r .codes) q k t) (letter (r .graph j t) (eqb t j)) ≡ f (r .codes t) (letter (r .graph j t) (eqb t j))
+          → f (put (r .codes) q k t) (letter (r .graph j t) (eqb t j)) ≡ f (r .codes t)
+          (letter (r .graph j t) (eqb t j))
       at f e t (no h) = ap (λ c. f c (letter (r .graph j t) (eqb t j))) (put-other (r .codes) q k t h)
       at f e t (yes h) =
           let here : letter (r .graph j t) (eqb t j) ≡ I =
@@ -118,7 +121,8 @@ module _ (n : ℕ) (r : GraphRecord) (S : Simple n (r .graph)) (q : ℕ) (hq : q
   with-I : (w : Word) → letterAt (product n n w rows) q ≡ I → w q ≡ false
   with-I w e =
       let b = bits-of-I _ _ e in
-      no-choice (image (r .codes q) X) (w q) (image-acts ((r .codes q) .class)) (sym (z-at w) ∙ b .0) (sym (x-at w) ∙ b .1)
+      no-choice (image (r .codes q) X) (w q) (image-acts ((r .codes q) .class)) (sym (z-at w) ∙ b .0)
+      (sym (x-at w) ∙ b .1)
 
   commuting : Commuting n n new
   commuting = record-proper n (recodedAt r q k) S .commuting

@@ -103,55 +103,59 @@ renew-alone word g u q k H low =
 assoc : (a b c : Bool) → (a && (b && c)) ≡ ((a && b) && c)
 assoc = bits 3 (λ a b c. a && (b && c)) (λ a b c. (a && b) && c) tt
 
-module _ (s : Word) (u : UsedRecord) (q k : ℕ) (long : length (u .held .codes) ≡ u .held .n) (below : q < u .held .n) where
-  abbrev n : ℕ
-  n = u .held .n
+module _ (s : Word) (u : UsedRecord) (q k : ℕ) (long : length (u .held .codes) ≡ u .held .n) (below : q < u .held .n)
+  where
+    abbrev n : ℕ
+    n = u .held .n
 
-  -- of the vertices of a group that has the qubit: the renewal of them alone
-  pub renewed-own : s q ≡ true → masked s (renewed u q k) ≡ renewed (masked s u) q k
-  renewed-own own = λ i. usedRecord n ((masked s u) .held .neighbours) (codes i) (used i)
-    where
-      kept : List ℕ
-      kept = (masked s u) .held .codes
+    -- of the vertices of a group that has the qubit: the renewal of them alone
+    pub renewed-own : s q ≡ true → masked s (renewed u q k) ≡ renewed (masked s u) q k
+    renewed-own own = λ i. usedRecord n ((masked s u) .held .neighbours) (codes i) (used i)
+      where
+        kept : List ℕ
+        kept = (masked s u) .held .codes
 
-      at : (t : ℕ) → t < n → Dec (t ≡ q) → cond (s t) (getD (set (u .held .codes) q k) t 0) 8 ≡ getD (set kept q k) t 0
-      at t l (no d) = ap (λ c. cond (s t) c 8) (getD-set-other (u .held .codes) q t k 0 d) ∙ sym (tabulate-at n _ t l)
-          ∙ sym (getD-set-other kept q t k 0 d)
-      at t l (yes d) =
-          ap (λ b. cond b (getD (set (u .held .codes) q k) t 0) 8) (ap s d ∙ own)
-          ∙ ap (λ v. getD (set (u .held .codes) q k) v 0) d
-          ∙ getD-set-same (u .held .codes) q k 0 (subst (λ m. q < m) (sym long) below)
-          ∙ sym (ap (λ v. getD (set kept q k) v 0) d
-          ∙ getD-set-same kept q k 0 (subst (λ m. q < m) (sym (tabulate-length n _)) below))
+        at : (t : ℕ) → t < n → Dec (t ≡ q) → cond (s t) (getD (set (u .held .codes) q k) t 0) 8 ≡ getD (set kept q k) t 0
+        at t l (no d) = ap (λ c. cond (s t) c 8) (getD-set-other (u .held .codes) q t k 0 d) ∙ sym (tabulate-at n _ t l)
+            ∙ sym (getD-set-other kept q t k 0 d)
+        at t l (yes d) =
+            ap (λ b. cond b (getD (set (u .held .codes) q k) t 0) 8) (ap s d ∙ own)
+            ∙ ap (λ v. getD (set (u .held .codes) q k) v 0) d
+            ∙ getD-set-same (u .held .codes) q k 0 (subst (λ m. q < m) (sym long) below)
+            ∙ sym (ap (λ v. getD (set kept q k) v 0) d
+            ∙ getD-set-same kept q k 0 (subst (λ m. q < m) (sym (tabulate-length n _)) below))
 
-      codes : (masked s (renewed u q k)) .held .codes ≡ set kept q k
-      codes = ext-getD 0 _ _ (tabulate-length n _ ∙ sym (length-set kept q k ∙ tabulate-length n _))
-          (λ t l. let h = subst (λ m. t < m) (tabulate-length n _) l in tabulate-at n _ t h ∙ at t h (ℕ-discrete t q))
+        codes : (masked s (renewed u q k)) .held .codes ≡ set kept q k
+        codes = ext-getD 0 _ _ (tabulate-length n _ ∙ sym (length-set kept q k ∙ tabulate-length n _))
+            (λ t l. let h = subst (λ m. t < m) (tabulate-length n _) l in tabulate-at n _ t h ∙ at t h (ℕ-discrete t q))
 
-      used : (masked s (renewed u q k)) .used ≡ unmarked (masked s u) q
-      used = word-cong n _ _ (λ t l. ap (λ b. s t && b) (bit-wordOf n _ t l)
-          ∙ assoc (s t) (bit (u .used) t) (not (eqb t q))
-          ∙ sym (ap (λ b. b && not (eqb t q)) (bit-wordOf n _ t l)))
+        used : (masked s (renewed u q k)) .used ≡ unmarked (masked s u) q
+        used = word-cong n _ _ (λ t l. ap (λ b. s t && b) (bit-wordOf n _ t l)
+            ∙ assoc (s t) (bit (u .used) t) (not (eqb t q))
+            ∙ sym (ap (λ b. b && not (eqb t q)) (bit-wordOf n _ t l)))
 
-  -- of the other group's vertices: nothing changes
-  pub renewed-other : s q ≡ false → masked s (renewed u q k) ≡ masked s u
-  renewed-other other = λ i. usedRecord n ((masked s u) .held .neighbours) (codes i) (used i)
-    where
-      at : (t : ℕ) → Dec (t ≡ q) → cond (s t) (getD (set (u .held .codes) q k) t 0) 8 ≡ cond (s t) (getD (u .held .codes) t 0) 8
-      at t (no d) = ap (λ c. cond (s t) c 8) (getD-set-other (u .held .codes) q t k 0 d)
-      at t (yes d) = let off : s t ≡ false = ap s d ∙ other in
-          ap (λ b. cond b (getD (set (u .held .codes) q k) t 0) 8) off ∙ sym (ap (λ b. cond b (getD (u .held .codes) t 0) 8) off)
+    -- of the other group's vertices: nothing changes
+    pub renewed-other : s q ≡ false → masked s (renewed u q k) ≡ masked s u
+    renewed-other other = λ i. usedRecord n ((masked s u) .held .neighbours) (codes i) (used i)
+      where
+        at : (t : ℕ) → Dec (t ≡ q) → cond (s t) (getD (set (u .held .codes) q k) t 0) 8 ≡ cond (s t)
+            (getD (u .held .codes) t 0) 8
+        at t (no d) = ap (λ c. cond (s t) c 8) (getD-set-other (u .held .codes) q t k 0 d)
+        at t (yes d) = let off : s t ≡ false = ap s d ∙ other in
+            ap (λ b. cond b (getD (set (u .held .codes) q k) t 0) 8) off ∙ sym
+            (ap (λ b. cond b (getD (u .held .codes) t 0) 8) off)
 
-      codes : (masked s (renewed u q k)) .held .codes ≡ (masked s u) .held .codes
-      codes = tabulate-cong n _ _ (λ t l. at t (ℕ-discrete t q))
+        codes : (masked s (renewed u q k)) .held .codes ≡ (masked s u) .held .codes
+        codes = tabulate-cong n _ _ (λ t l. at t (ℕ-discrete t q))
 
-      at-bit : (t : ℕ) → Dec (t ≡ q) → (s t && (bit (u .used) t && not (eqb t q))) ≡ (s t && bit (u .used) t)
-      at-bit t (no d) = ap (λ e. s t && (bit (u .used) t && not e)) (other-place d) ∙ ap (λ b. s t && b) (and-true (bit (u .used) t))
-      at-bit t (yes d) = let off : s t ≡ false = ap s d ∙ other in
-          ap (λ b. b && (bit (u .used) t && not (eqb t q))) off ∙ sym (ap (λ b. b && bit (u .used) t) off)
+        at-bit : (t : ℕ) → Dec (t ≡ q) → (s t && (bit (u .used) t && not (eqb t q))) ≡ (s t && bit (u .used) t)
+        at-bit t (no d) = ap (λ e. s t && (bit (u .used) t && not e)) (other-place d) ∙ ap (λ b. s t && b)
+            (and-true (bit (u .used) t))
+        at-bit t (yes d) = let off : s t ≡ false = ap s d ∙ other in
+            ap (λ b. b && (bit (u .used) t && not (eqb t q))) off ∙ sym (ap (λ b. b && bit (u .used) t) off)
 
-      used : (masked s (renewed u q k)) .used ≡ (masked s u) .used
-      used = word-cong n _ _ (λ t l. ap (λ b. s t && b) (bit-wordOf n _ t l) ∙ at-bit t (ℕ-discrete t q))
+        used : (masked s (renewed u q k)) .used ≡ (masked s u) .used
+        used = word-cong n _ _ (λ t l. ap (λ b. s t && b) (bit-wordOf n _ t l) ∙ at-bit t (ℕ-discrete t q))
 
 -- the groups stay apart
 pub renewed-apart : (word : ℕ) (u : UsedRecord) (q k : ℕ) → Apart word u → firstFitting (renewLines u q k) ≡ 0

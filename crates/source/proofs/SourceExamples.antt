@@ -29,6 +29,7 @@ abbrev number : ℕ → ℕ → ℕ
 number q k = firstFitting (renewLines measured q k)
 
 pub renewals : (left measured 0 0 ≡ (0 ∷ 0 ∷ 0 ∷ 0 ∷ 0 ∷ 10 ∷ []))
-    × ((number 1 0 ∷ number 2 0 ∷ number 0 1 ∷ number 0 12 ∷ number 2 24 ∷ number 0 10 ∷ []) ≡ (20 ∷ 8 ∷ 6 ∷ 6 ∷ 6 ∷ 0 ∷ []))
+    × ((number 1 0 ∷ number 2 0 ∷ number 0 1 ∷ number 0 12 ∷ number 2 24 ∷ number 0 10 ∷ []) ≡
+    (20 ∷ 8 ∷ 6 ∷ 6 ∷ 6 ∷ 0 ∷ []))
 unfolding bit wordOf some firstFitting reaching notSimple usedWrong
 renewals = (refl, refl)

@@ -17,12 +17,14 @@ use Rattle.words.specs.Bits.{bit, wordOf}
 abbrev pub photon : ℕ → ℕ → Pauli
 photon q k = single (image (cliffordOf k) X) q ((cliffordOf k) .sx)
 
--- the group afterwards: "the elements with I at the qubit, joined by that Pauli with its sign". G has the elements before
+-- the group afterwards: "the elements with I at the qubit, joined by that Pauli with its sign". G has the elements
+-- before
 pub data Renewed (n : ℕ) (G : Pauli → Type 0) (q : ℕ) (P : Pauli) : Pauli → Type 0 where
   kept : {p : Pauli} → G p → letterAt p q ≡ I → Renewed n G q P p
   joined : {p : Pauli} → G p → letterAt p q ≡ I → Renewed n G q P (mul n p P)
 
--- the lines of the call. 6: the code is none of 0, 2, 4, 6, 8 and 10; 8: "A qubit number is n or more"; 20: "the qubit to
+-- the lines of the call. 6: the code is none of 0, 2, 4, 6, 8 and 10; 8: "A qubit number is n or more"; 20: "the qubit
+-- to
 -- renew is not used"
 abbrev pub renewLines : UsedRecord → ℕ → ℕ → List Refusal
 renewLines u q k =

@@ -69,7 +69,8 @@ module _ (n k : ℕ) (in-x : Bool) (i : ℕ) (z x : List ℕ) where
     module _ (more : j < n) (z-fits : n ≤ length z) (x-fits : n ≤ length x)
         (word : ℕ) (w : word ≡ cond in-x (getD x′ j 0) (getD z′ j 0)) where
       chosen : bit word i ≡ named j
-      chosen = ap (λ v. bit v i) (w ∙ ap₂ (cond in-x) (A .x-mapped .rest j (omega arith)) (A .z-mapped .rest j (omega arith)))
+      chosen = ap (λ v. bit v i) (w ∙ ap₂ (cond in-x) (A .x-mapped .rest j (omega arith))
+          (A .z-mapped .rest j (omega arith)))
           ∙ sym (is-later j (A .past) more)
 
       wanted : (words words′ : List ℕ) → Mapped (Wanted words) words words′ j → (by part : ℕ)

@@ -52,7 +52,8 @@ module _ (n k : ℕ) (hk : k < n) (in-x : Bool) (i : ℕ) (z x z′ x′ : List 
       } (independent-shear n (lettersOf z x) k hk named kept H)
 
   -- done twice, it undoes itself
-  twice : (words words′ : List ℕ) → ((j q : ℕ) → bit (getD words′ j 0) q ≡ bit (getD words j 0) q ⊕ (named j && bit (getD words k 0) q))
+  twice : (words words′ : List ℕ) → ((j q : ℕ) → bit (getD words′ j 0) q ≡ bit (getD words j 0) q ⊕
+      (named j && bit (getD words k 0) q))
       → (j q : ℕ) → bit (getD words′ j 0) q ⊕ (named j && bit (getD words′ k 0) q) ≡ bit (getD words j 0) q
   twice words words′ e j q =
       ap₂ (λ a b. a ⊕ (named j && b)) (e j q)

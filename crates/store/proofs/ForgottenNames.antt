@@ -1,4 +1,5 @@
--- What is held under each name after a forget: nothing under the name, and under every other name what was held before. No
+-- What is held under each name after a forget: nothing under the name, and under every other name what was held before.
+-- No
 -- line refuses the store then.
 use mathlib.Core.Bool.{_&&_, cond, false, not, true, true≢false}
 use mathlib.Core.Logic.{_≢_}
@@ -50,7 +51,8 @@ module _ (k : ℕ) (st : Store) (P : Passing k st) (name p : ℕ) (T : TakenFor 
   kept-count i h = kept-word (3 * i) (λ e. h (omega (arith, e)))
 
   kept-name : (m i : ℕ) → (i ≡ p → ⊥) → hasName (freed .heads) m i ≡ hasName (st .heads) m i
-  kept-name m i h = ap₂ (λ c n. not (eqb c 0) && eqb n m) (kept-count i h) (kept-word (3 * i + 1) (λ e. omega (arith, e)))
+  kept-name m i h = ap₂ (λ c n. not (eqb c 0) && eqb n m) (kept-count i h)
+      (kept-word (3 * i + 1) (λ e. omega (arith, e)))
 
   kept-place : (i : ℕ) → (i ≡ p → ⊥) → placeAt freed i ≡ placeAt st i
   kept-place i h = λ j. record {
@@ -75,7 +77,8 @@ module _ (k : ℕ) (st : Store) (P : Passing k st) (name p : ℕ) (T : TakenFor 
       none i li (no s) = kept-name name i s ∙ T .alone i li s
 
       others : (i : ℕ) → (m ≡ name → ⊥) → Dec (i ≡ p) → hasName (freed .heads) m i ≡ hasName (st .heads) m i
-      others i h (yes s) = ap (hasName (freed .heads) m) s ∙ free-own m ∙ sym (ap (hasName (st .heads) m) s ∙ T .no-other m h)
+      others i h (yes s) = ap (hasName (freed .heads) m) s ∙ free-own m ∙ sym
+          (ap (hasName (st .heads) m) s ∙ T .no-other m h)
       others i h (no s) = kept-name m i s
 
   freed-passing : Passing k freed

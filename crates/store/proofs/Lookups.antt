@@ -47,13 +47,15 @@ use Rattle.store.specs.internal.Passing.{Passing}
 pub same-lookup : (k : ℕ) (st st′ : Store) (m : ℕ) → ((i : ℕ) → hasName (st′ .heads) m i ≡ hasName (st .heads) m i)
     → ((i : ℕ) → i < k → hasName (st .heads) m i ≡ true → placeAt st′ i ≡ placeAt st i) → lookup k st′ m ≡ lookup k st m
 same-lookup k st st′ m e f =
-    ap (λ g. cond (some k g) (found (placeAt st′ (first k g))) nothing) (λ j i. e i j) ∙ go (holdsName k (st .heads) m) refl
+    ap (λ g. cond (some k g) (found (placeAt st′ (first k g))) nothing) (λ j i. e i j) ∙ go (holdsName k (st .heads) m)
+    refl
   where
     go : (b : Bool) → holdsName k (st .heads) m ≡ b
         → cond (holdsName k (st .heads) m) (found (placeAt st′ (placeOf k (st .heads) m))) nothing
         ≡ cond (holdsName k (st .heads) m) (found (placeAt st (placeOf k (st .heads) m))) nothing
     go true h = let F = some-true k (hasName (st .heads) m) h in
-        ap (λ u. cond (holdsName k (st .heads) m) (found u) nothing) (f (placeOf k (st .heads) m) (F .below) (F .passes))
+        ap (λ u. cond (holdsName k (st .heads) m) (found u) nothing)
+        (f (placeOf k (st .heads) m) (F .below) (F .passes))
     go false h = ap (λ b. cond b (found (placeAt st′ (placeOf k (st .heads) m))) nothing) h
         ∙ sym (ap (λ b. cond b (found (placeAt st (placeOf k (st .heads) m))) nothing) h)
 
@@ -72,7 +74,8 @@ found-at k st m p l e alone =
 pub found-nowhere : (k : ℕ) (st : Store) (m : ℕ) → holdsName k (st .heads) m ≡ false → lookup k st m ≡ nothing
 found-nowhere k st m e = ap (λ b. cond b (found (placeAt st (placeOf k (st .heads) m))) nothing) e
 
-pub by-name : {A : Type 0} (m name : ℕ) {x a b : A} → (m ≡ name → x ≡ a) → ((m ≡ name → ⊥) → x ≡ b) → x ≡ cond (eqb m name) a b
+pub by-name : {A : Type 0} (m name : ℕ) {x a b : A} → (m ≡ name → x ≡ a) → ((m ≡ name → ⊥) → x ≡ b) → x ≡ cond
+    (eqb m name) a b
 by-name m name {x} {a} {b} f g = go (ℕ-discrete m name)
   where
     go : Dec (m ≡ name) → x ≡ cond (eqb m name) a b
@@ -80,7 +83,8 @@ by-name m name {x} {a} {b} f g = go (ℕ-discrete m name)
     go (no h) = g h ∙ sym (ap (λ t. cond t a b) (ne-eqb m name h))
 
 -- ---- a record put at a place that a save may take
-module _ (k : ℕ) (st : Store) (P : Passing k st) (u : UsedRecord) (passes : firstFitting (usedLines u false false false) ≡ 0)
+module _ (k : ℕ) (st : Store) (P : Passing k st) (u : UsedRecord)
+    (passes : firstFitting (usedLines u false false false) ≡ 0)
     (name p : ℕ) (T : TakenFor k (st .heads) name p) where
   abbrev after : Store
   after = withPlace p u name st
@@ -117,8 +121,10 @@ module _ (k : ℕ) (st : Store) (P : Passing k st) (u : UsedRecord) (passes : fi
   place-own = λ j. record {
     held = record {
       n = count-own j;
-      neighbours = (ap (λ m. partAt p m (after .neighbours)) (count-own ∙ sym (A .neighbours-length)) ∙ placed-own p (u .held .neighbours) (st .neighbours) few-words words) j;
-      codes = (ap (λ m. partAt p m (after .codes)) (count-own ∙ sym (A .codes-length)) ∙ placed-own p (u .held .codes) (st .codes) few-bytes bytes) j;
+      neighbours = (ap (λ m. partAt p m (after .neighbours)) (count-own ∙ sym (A .neighbours-length)) ∙ placed-own p
+          (u .held .neighbours) (st .neighbours) few-words words) j;
+      codes = (ap (λ m. partAt p m (after .codes)) (count-own ∙ sym (A .codes-length)) ∙ placed-own p (u .held .codes)
+          (st .codes) few-bytes bytes) j;
     };
     used = headed-used p (u .held .n) name (u .used) (st .heads) head j;
   }
@@ -146,8 +152,10 @@ module _ (k : ℕ) (st : Store) (P : Passing k st) (u : UsedRecord) (passes : fi
   place-other i h few = λ j. record {
     held = record {
       n = count-other i h j;
-      neighbours = (ap (λ m. partAt i m (after .neighbours)) (count-other i h) ∙ placed-other p (u .held .neighbours) (st .neighbours) few-words words i (countAt (st .heads) i) h few) j;
-      codes = (ap (λ m. partAt i m (after .codes)) (count-other i h) ∙ placed-other p (u .held .codes) (st .codes) few-bytes bytes i (countAt (st .heads) i) h few) j;
+      neighbours = (ap (λ m. partAt i m (after .neighbours)) (count-other i h) ∙ placed-other p (u .held .neighbours)
+          (st .neighbours) few-words words i (countAt (st .heads) i) h few) j;
+      codes = (ap (λ m. partAt i m (after .codes)) (count-other i h) ∙ placed-other p (u .held .codes) (st .codes)
+          few-bytes bytes i (countAt (st .heads) i) h few) j;
     };
     used = word-other i 2 (omega arith) h j;
   }
@@ -206,7 +214,8 @@ module _ (k : ℕ) (st : Store) (P : Passing k st) (u : UsedRecord) (passes : fi
       one m i j li lj a b (no h) = once m i j li lj (sym (named-other m i h) ∙ a) (sym (named-other m j h) ∙ b)
 
 -- ---- a save
-module _ (k : ℕ) (st : Store) (P : Passing k st) (u : UsedRecord) (passes : firstFitting (usedLines u false false false) ≡ 0)
+module _ (k : ℕ) (st : Store) (P : Passing k st) (u : UsedRecord)
+    (passes : firstFitting (usedLines u false false false) ≡ 0)
     (name : ℕ) (l : savePlace k (st .heads) name < k) where
   taken : TakenFor k (st .heads) name (savePlace k (st .heads) name)
   taken = taken-for k (st .heads) name (names-once k (st .heads) (P .once)) l

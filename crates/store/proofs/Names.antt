@@ -87,7 +87,8 @@ module _ (k : ℕ) (heads : List ℕ) (name : ℕ) (O : Once k heads) (l : saveP
       go : (b : Bool) → holdsName k heads name ≡ b → TakenFor k heads name (savePlace k heads name)
       go true e =
           let F = some-true k (hasName heads name) e in
-          subst (TakenFor k heads name) (sym (named-place k heads name e)) (named (placeOf k heads name) (F .below) (F .passes))
+          subst (TakenFor k heads name) (sym (named-place k heads name e))
+          (named (placeOf k heads name) (F .below) (F .passes))
       go false e =
           let f = subst (λ q. q < k) (new-place k heads name e) l in
           let F = some-true k (λ j. not (isHeld heads j)) (below-some k (λ j. not (isHeld heads j)) f) in

@@ -21,7 +21,8 @@ pub bare : (b : Bool) → ((b || false) || false) ≡ false → b ≡ false
 bare b e = neither b false (neither (b || false) false e .0) .0
 
 -- a record that passes, by its tests
-tests-pass : (u : UsedRecord) → ofRecord u 2 ≡ false → ofRecord u 4 ≡ false → ofRecord u 5 ≡ false → ofRecord u 6 ≡ false
+tests-pass : (u : UsedRecord) → ofRecord u 2 ≡ false → ofRecord u 4 ≡ false → ofRecord u 5 ≡ false → ofRecord u 6 ≡
+    false
     → ofRecord u 7 ≡ false → firstFitting (usedLines u false false false) ≡ 0
 tests-pass u a b c d e = sym (record-number u) ∙ none-fits-of (recordTests (ofRecord u)) (a, (b, (c, (d, (e, tt)))))
 
@@ -61,7 +62,8 @@ module _ (k : ℕ) (st : Store) (others : Bool) where
           codes-long = has-length (64 * k) (st .codes) (q .1);
           records = λ i l e. tests-pass (placeAt st i)
               (none-of 2 (bare _ (all .0)) i l e)
-              (none-of 4 (neither (ofHeld k st 4) (storeLengths k st || others) (neither _ false (all .1 .0) .0) .0) i l e)
+              (none-of 4 (neither (ofHeld k st 4) (storeLengths k st || others) (neither _ false (all .1 .0) .0) .0) i l
+              e)
               (none-of 5 (bare _ (all .1 .1 .0)) i l e)
               (none-of 6 (bare _ (all .1 .1 .1 .0)) i l e)
               (none-of 7 (neither (ofHeld k st 7) false (seven .0) .0) i l e);

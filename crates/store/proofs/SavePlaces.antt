@@ -50,7 +50,8 @@ module _ (k : ℕ) (heads : List ℕ) (name : ℕ) where
             let F = some-true k (hasName heads name) h in
             true≢false (sym (F .passes)
             ∙ not-other (isHeld heads (placeOf k heads name)) (eqb (nameAt heads (placeOf k heads name)) name)
-            (every-at k (λ i. isHeld heads i && not (eqb (nameAt heads i) name)) e (placeOf k heads name) (F .below)) .0)
+            (every-at k (λ i. isHeld heads i && not (eqb (nameAt heads i) name)) e (placeOf k heads name)
+            (F .below)) .0)
         none e false h =
             let F = some-true k (λ j. not (isHeld heads j))
             (below-some k (λ j. not (isHeld heads j)) (subst (λ p. p < k) (new-place h) l)) in

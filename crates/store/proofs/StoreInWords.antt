@@ -29,7 +29,16 @@ use Rattle.words.proofs.Flags.{both-true}
 use Rattle.words.proofs.SearchLaws.{every-at, every-in}
 use Rattle.store.specs.Places.{Store, hasName, holdsName, isHeld, nameAt, namedTwice, othersHeld, placeAt}
 use Rattle.store.specs.StoreLines.{namedLines, ofHeld, ofRecord, saveLines, storeLengths, storeLines}
-use Rattle.store.specs.StoreSentences.{NameHeldTwice, UnknownName, AllOtherNames, SomeHeld, StoreMisfits, namedSentences, saveSentences, storeSentences}
+use Rattle.store.specs.StoreSentences.{
+  NameHeldTwice,
+  UnknownName,
+  AllOtherNames,
+  SomeHeld,
+  StoreMisfits,
+  namedSentences,
+  saveSentences,
+  storeSentences,
+}
 
 -- ---- the lines of one record, by their numbers
 module _ (u : UsedRecord) where

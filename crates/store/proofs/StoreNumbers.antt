@@ -16,14 +16,16 @@ use Rattle.store.specs.StoreLines.{ofHeld, ofRecord, recordTests, storeL
 use Rattle.store.specs.internal.StoreNumbers.{largeCount, numberAt}
 
 -- a record's number by its tests
-pub record-number : (u : UsedRecord) → firstFitting (recordTests (ofRecord u)) ≡ firstFitting (usedLines u false false false)
+pub record-number : (u : UsedRecord) → firstFitting (recordTests (ofRecord u)) ≡ firstFitting
+    (usedLines u false false false)
 record-number u = told-by-number _ _ _ _ _
 
 -- free, or held
 module _ (u : UsedRecord) where
   pub free-number : u .held .n ≡ 0
       → 0 ≡ cond (not (eqb (u .held .n) 0)) (firstFitting (usedLines u false false false)) 0
-  free-number e = sym (ap (λ b. cond (not b) (firstFitting (usedLines u false false false)) 0) (eq-eqb (u .held .n) 0 e))
+  free-number e = sym (ap (λ b. cond (not b) (firstFitting (usedLines u false false false)) 0)
+      (eq-eqb (u .held .n) 0 e))
 
   pub held-place-number : (u .held .n ≡ 0 → ⊥) → {r : ℕ} → r ≡ firstFitting (usedLines u false false false)
       → r ≡ cond (not (eqb (u .held .n) 0)) (firstFitting (usedLines u false false false)) 0
@@ -42,7 +44,8 @@ module _ (st : Store) where
       by-held false = refl
 
   pub held-number : (k : ℕ) → firstFitting (recordTests (ofHeld k st)) ≡ earliestOf k (numberAt st)
-  held-number k = earlier-of k (λ i m. isHeld (st .heads) i && ofRecord (placeAt st i) m) ∙ ap (earliestOf k) (λ j i. place-number i j)
+  held-number k = earlier-of k (λ i m. isHeld (st .heads) i && ofRecord (placeAt st i) m) ∙ ap (earliestOf k)
+      (λ j i. place-number i j)
 
 -- line 2 of the held records is that of an n above 64
 module _ (k : ℕ) (st : Store) where

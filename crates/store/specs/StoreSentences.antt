@@ -1,4 +1,5 @@
--- The lines of a store of k places in the documents' words: "its held records are checked like any other, and a name held
+-- The lines of a store of k places in the documents' words: "its held records are checked like any other, and a name
+-- held
 -- twice in it gives 7" (02, §12).
 use mathlib.Core.Bool.{true}
 use mathlib.Core.List.{_++_, List, [], _∷_}
@@ -17,7 +18,8 @@ SomeHeld k st P = (i : ℕ) × (i < k) × ((isHeld (st .heads) i ≡ true) × P 
 
 -- 4: a buffer of the store has not three words, 64 neighbour words and 64 codes for each place
 abbrev pub StoreMisfits : ℕ → Store → Type 0
-StoreMisfits k st = OtherLength (3 * k) (st .heads) ⊎ (OtherLength (64 * k) (st .neighbours) ⊎ OtherLength (64 * k) (st .codes))
+StoreMisfits k st = OtherLength (3 * k) (st .heads) ⊎ (OtherLength (64 * k) (st .neighbours) ⊎ OtherLength (64 * k)
+    (st .codes))
 
 -- 7: "a name held twice in it": two places hold a record under one name
 abbrev pub NameHeldTwice : ℕ → List ℕ → Type 0

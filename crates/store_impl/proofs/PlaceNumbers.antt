@@ -63,7 +63,8 @@ module _ (k : ℕ) (st : Store) where
     pub place-passed : (n used : ℕ) (nb cs : List ℕ) → i < k → n ≤ 64 → n ≡ countAt (st .heads) i
         → used ≡ getD (st .heads) (3 * i + 2) 0
         → nb ≡ take 64 (drop (64 * i) (st .neighbours)) → cs ≡ take 64 (drop (64 * i) (st .codes))
-        → (here : ℕ) → here ≡ cond (not (eqb n 0)) (firstFitting (usedLines (usedRecord n (take n nb) (take n cs) used) false false false)) 0
+        → (here : ℕ) → here ≡ cond (not (eqb n 0)) (firstFitting
+        (usedLines (usedRecord n (take n nb) (take n cs) used) false false false)) 0
         → (next : ℕ) → next ≡ earlierOf number here → Passed k st next (i + 1)
     unfolding earliestOf
     place-passed n used nb cs l small en eu enb ecs here eh next e =

@@ -6,7 +6,17 @@ use mathlib.Core.List.{List, [], _∷_, _++_}
 use Prim.Native.Nat.{ℕ, _+_}
 use lib.ListN.{replicate}
 use Rattle.words.specs.Bits.{bit}
-use Rattle.text.specs.Text.{hexDigit, hexText, hexValue, decimal, ListLine, lineText, linesText, listNames, listText}
+use Rattle.text.specs.Text.{
+  hexDigit,
+  hexText,
+  hexValue,
+  decimal,
+  ListLine,
+  lineText,
+  linesText,
+  listNames,
+  listText,
+}
 use Rattle.text.specs.Text.{qubitLine, qubitLines, recordText, refusedText}
 use Rattle.text.specs.internal.Feeding.{fedBytes}
 use Rattle.text.specs.internal.Scan.{push, namesStep, signStep, zStep, xStep, oneMore, scanByte, begin}

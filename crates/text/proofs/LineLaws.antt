@@ -112,7 +112,8 @@ module _ (n : ℕ) (byte : ℕ → ℕ) where
 
   -- the row that they stand for has these columns
   module _ (h : lineFits n byte ≡ true) where
-    pub line-parts : (isSign (byte 0) ≡ true) × (every n (λ q. isLetter (byte (suc q))) ≡ true) × (eqb (byte (suc n)) 10 ≡ true)
+    pub line-parts : (isSign (byte 0) ≡ true) × (every n (λ q. isLetter (byte (suc q))) ≡ true) ×
+        (eqb (byte (suc n)) 10 ≡ true)
     unfolding lineFits
     line-parts =
         let a = both-true (isSign (byte 0)) _ h in

@@ -94,7 +94,8 @@ columns-read l fit R =
     (lineBehind (10 * decimalValue (48 + l .code / 10) + decimalValue (48 + l .code % 10)) (λ c. getD rest c 0)))
     (ne-eqb (48 + l .code % 10) 32 (λ z. absurd (omega (arith, z))))
     ∙ ap (λ k. lineBehind k (λ c. getD rest c 0))
-    (ap₂ (λ a b. 10 * a + b) (digit-read (l .code / 10) (omega (arith, fit .code))) (digit-read (l .code % 10) (omega arith))
+    (ap₂ (λ a b. 10 * a + b) (digit-read (l .code / 10) (omega (arith, fit .code)))
+    (digit-read (l .code % 10) (omega arith))
     ∙ omega arith)
     ∙ whole)
   where

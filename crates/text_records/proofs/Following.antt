@@ -171,10 +171,12 @@ module _ (t : List ℕ) where
               fewer = omega (arith, F .fewer, size-some);
               neighbours-long = length-set nb (count % 64) (r .line .word) ∙ F .neighbours-long;
               codes-long = length-set cs (count % 64) (r .line .code) ∙ F .codes-long;
-              words = λ few. subst (λ p. Filled 64 (λ q. (L q) .word) (set nb p (r .line .word)) (count + 1)) (sym (here few))
+              words = λ few. subst (λ p. Filled 64 (λ q. (L q) .word) (set nb p (r .line .word)) (count + 1))
+                  (sym (here few))
                   (fill-step 64 _ nb count (r .line .word) (F .words (omega arith)) (omega arith)
                   (ap (λ v. v .word) (T .line)));
-              marks = λ few. subst (λ p. Filled 64 (λ q. (L q) .code) (set cs p (r .line .code)) (count + 1)) (sym (here few))
+              marks = λ few. subst (λ p. Filled 64 (λ q. (L q) .code) (set cs p (r .line .code)) (count + 1))
+                  (sym (here few))
                   (fill-step 64 _ cs count (r .line .code) (F .marks (omega arith)) (omega arith)
                   (ap (λ v. v .code) (T .line)));
               used-word = λ few. marked count (λ q. (L q) .used) used′ (ap (λ v. v .used) (T .line))
@@ -185,7 +187,8 @@ module _ (t : List ℕ) where
             here few = mod-eq-of-lt (omega arith)
 
     -- the end of the text
-    part-filled : (f : ℕ → ℕ) (array : List ℕ) → count ≤ 64 → Filled 64 f array count → take count array ≡ tabulate count f
+    part-filled : (f : ℕ → ℕ) (array : List ℕ) → count ≤ 64 → Filled 64 f array count → take count array ≡ tabulate
+        count f
     part-filled f array few P =
         tabulate-is count f (take count array) (part-long count array few (P .long))
         (λ i k. getD-take count array i 0 k ∙ P .done i k)

@@ -28,7 +28,8 @@ module _ (t : List ℕ) (v : Verdict) (signs z x : List ℕ) (S : ScanOf t v sig
   says-form = subst (λ w. (w .«has_form» ≡ true) ↔ HasForm t) (sym (S .judged)) (read-judged .form)
 
   -- a text without the form
-  pub malformed-answers : (answer : GeneratorList → List ℕ) → v .«has_form» ≡ false → AnswersList answer t (refusedText 1)
+  pub malformed-answers : (answer : GeneratorList → List ℕ) → v .«has_form» ≡ false → AnswersList answer t
+      (refusedText 1)
   malformed-answers answer e =
       record {
         malformed = λ h. refl;

@@ -4,7 +4,18 @@ use mathlib.Core.Bool.{Bool, true}
 use mathlib.Core.List.{List}
 use mathlib.Core.Path.{ap, ap₂, subst, sym, _∙_, _≡_}
 use Prim.Native.Nat.{_%_, _*_, _+_, _-_, _/_, _<_, _^_, suc, zero, ℕ, _≤_}
-use native.Mathlib.Nat.{add-zero, le-refl, lt-of-lt-of-le, mul-assoc, mul-comm, mul-one, pow-suc, pow-zero, suc-add, zero-add}
+use native.Mathlib.Nat.{
+  add-zero,
+  le-refl,
+  lt-of-lt-of-le,
+  mul-assoc,
+  mul-comm,
+  mul-one,
+  pow-suc,
+  pow-zero,
+  suc-add,
+  zero-add,
+}
 use native.Mathlib.Omega.{arith}
 use lib.Arith.{digits-div, digits-mod}
 use lib.Dec.{eqb}
@@ -62,7 +73,11 @@ pub record LettersRead (n : ℕ) (f g : Word) (w q : ℕ) : Type 0 where
 module _ (n : ℕ) (f g : Word) where
   pub none-read : LettersRead n f g 0 n
   unfolding wordOf
-  none-read = record { upto = le-refl n; words = ap (λ k. bothWords (wordOf k (λ i. f (n + i))) (wordOf k (λ i. g (n + i)))) none }
+  none-read = record {
+    upto = le-refl n;
+    words = ap (λ k. bothWords (wordOf k (λ i. f (n + i)))
+        (wordOf k (λ i. g (n + i)))) none;
+  }
     where
       none : 0 ≡ n - n
       none = omega arith
@@ -91,7 +106,8 @@ module _ (n : ℕ) (f g : Word) where
   -- all letters: the two words
   module _ {w q : ℕ} (L : LettersRead n f g w q) (done : q ≤ 0) (few : n ≤ 32) where
     whole : (f : Word) → wordFrom n f q ≡ wordOf n f
-    whole f = ap (wordFrom n f) none ∙ ap (λ k. wordOf k (λ i. f (0 + i))) all ∙ word-cong n _ f (λ i l. ap f (omega arith))
+    whole f = ap (wordFrom n f) none ∙ ap (λ k. wordOf k (λ i. f (0 + i))) all ∙ word-cong n _ f
+        (λ i l. ap f (omega arith))
       where
         none : q ≡ 0
         none = omega arith

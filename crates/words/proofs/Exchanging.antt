@@ -193,7 +193,8 @@ module _ (m s low : ℕ) (small : m ≤ 64) (R : Round s low) (F : Fits m s) whe
 
         at : (r c : ℕ) → r < m → c < m → upper s r < k + 1 → Dec (r ≡ k) → Dec (r ≡ k + s)
             → bit (getD rows₂ r 0) c ≡ bit (getD rows₀ (crossed s r c) 0) (crossed s c r)
-        at r c hr hc l (yes e) w = subst (λ r. bit (getD rows₂ r 0) c ≡ bit (getD rows₀ (crossed s r c) 0) (crossed s c r))
+        at r c hr hc l (yes e) w = subst (λ r. bit (getD rows₂ r 0) c ≡ bit (getD rows₀ (crossed s r c) 0)
+            (crossed s c r))
             (sym e) (ap (λ w. bit w c) upper-row ∙ upper-bit s low R a b c (omega arith)
             ∙ upper-moved c hc (lacks s c) refl)
         at r c hr hc l (no u) (yes e) = subst (λ r. bit (getD rows₂ r 0) c

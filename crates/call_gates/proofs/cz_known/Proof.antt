@@ -72,5 +72,6 @@ returns-2 c =
 pub cz-known-spec : {M : Type 1} → statement M
 cz-known-spec =
     tie.close
-    (tie.spec (λ c κs. search needs) (λ c κs. search needs) first-look-requires (λ c κs. search needs) (λ c. search needs)
+    (tie.spec (λ c κs. search needs) (λ c κs. search needs) first-look-requires (λ c κs. search needs)
+    (λ c. search needs)
     (λ c. search needs) returns found-requires cz-record-requires (λ c. search needs) (λ c. search needs) returns-2)

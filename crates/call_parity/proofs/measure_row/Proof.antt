@@ -66,7 +66,8 @@ returns-3 c =
     let S = at E in
     let a = S .args in
     row-done (lent S) (a .z) (a .x) (a .bit) (E .used-refusal .ensures) (D .before .if1 .left)
-    (ap not (eq-eqb (bitAnd (a .used) (bitOr (a .z) (a .x))) 0 (D .if2 .left))) (a .answer .now) (a .determined .now) _ _ _
+    (ap not (eq-eqb (bitAnd (a .used) (bitOr (a .z) (a .x))) 0 (D .if2 .left))) (a .answer .now) (a .determined .now) _
+    _ _
     (M .measure-row-record .ensures) _ _ (O .outcome-number .ensures) (c .determined-number .ensures)
 
 pub measure-row-spec : {M : Type 1} → statement M

@@ -86,5 +86,6 @@ pub renew-known-spec : {M : Type 1} → statement M
 renew-known-spec =
     tie.close
     (tie.spec (λ c κs. search needs) (λ c κs. search needs) (λ c. search needs) (λ c. search needs) returns
-    (λ c. search needs) (λ c. search needs) returns-2 (λ c κs. search needs) (λ c. search needs) (λ c. search needs) returns-3
+    (λ c. search needs) (λ c. search needs) returns-2 (λ c κs. search needs) (λ c. search needs) (λ c. search needs)
+    returns-3
     slice-write-codes flip-requires (λ c. search needs) (λ c. search needs) returns-4)

@@ -30,7 +30,8 @@ slice-write-heads c =
     let E = P .before .before in
     let R = E .before in
     let S = R .before .before .before .before .before in
-    head-inside (S .args .name) (store S) _ (R .store-refusal .ensures) (E .if1 .left) _ (P .find .ensures) (c .if2 .left)
+    head-inside (S .args .name) (store S) _ (R .store-refusal .ensures) (E .if1 .left) _ (P .find .ensures)
+    (c .if2 .left)
 
 returns-3 : tie.Need-returns-3
 returns-3 c =

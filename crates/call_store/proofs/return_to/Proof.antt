@@ -35,7 +35,8 @@ returns-2 c =
     let P = c .before in
     let R = P .before .before in
     let S = R .before .before .before .before .before .before .before .before in
-    return-not-held _ (store S) _ (S .args .neighbours .now) (S .args .codes .now) _ _ (early R) (P .before .if1 .left) _
+    return-not-held _ (store S) _ (S .args .neighbours .now) (S .args .codes .now) _ _ (early R) (P .before .if1 .left)
+    _
     (P .find .ensures) (c .if2 .taken)
 
 take-record-requires : tie.Need-take-record-requires
@@ -45,7 +46,8 @@ take-record-requires c κs =
     let P = L .before in
     let R = P .before .before in
     let S = R .before .before .before .before .before .before .before .before in
-    take-fits (S .args .name) (store S) (S .args .n .now) (S .args .neighbours .now) (S .args .codes .now) (S .args .used .now)
+    take-fits (S .args .name) (store S) (S .args .n .now) (S .args .neighbours .now) (S .args .codes .now)
+    (S .args .used .now)
     _ (early R) (P .before .if1 .left) _ (P .find .ensures) (L .if2 .left) _ (N .word-at .ensures)
 
 returns-3 : tie.Need-returns-3
@@ -57,12 +59,14 @@ returns-3 c =
     let R = P .before .before in
     let S = R .before .before .before .before .before .before .before .before in
     return-done _ (store S) _ (S .args .neighbours .now) (S .args .codes .now) _ _ (early R) (P .before .if1 .left) _
-    (P .find .ensures) (L .if2 .left) _ (N .word-at .ensures) _ _ _ (W .take-record .ensures .0) (W .take-record .ensures .1)
+    (P .find .ensures) (L .if2 .left) _ (N .word-at .ensures) _ _ _ (W .take-record .ensures .0)
+    (W .take-record .ensures .1)
     (c .word-at2 .ensures)
 
 pub return-to-spec : {M : Type 1} → statement M
 return-to-spec =
     tie.close
-    (tie.spec (λ c κs. search needs) (λ c κs. search needs) (λ c κs. search needs) returns (λ c κs. search needs) returns-2
+    (tie.spec (λ c κs. search needs) (λ c κs. search needs) (λ c κs. search needs) returns (λ c κs. search needs)
+    returns-2
     (λ c. search needs) (λ c κs. search needs) take-record-requires (λ c. search needs) (λ c. search needs)
     (λ c κs. search needs) (λ c. search needs) (λ c. search needs) returns-3)

@@ -49,7 +49,8 @@ put-record-requires c κs =
     let E = P .before .before in
     let R = E .before in
     let S = R .before .before .before .before .before .before .before .before .before in
-    record-fits (lent S) (store S) _ _ (R .save-refusal .ensures) (E .if1 .left) _ (P .place-for .ensures) (L .if2 .left)
+    record-fits (lent S) (store S) _ _ (R .save-refusal .ensures) (E .if1 .left) _ (P .place-for .ensures)
+    (L .if2 .left)
 
 returns-3 : tie.Need-returns-3
 returns-3 c =
@@ -61,9 +62,11 @@ returns-3 c =
     let R = E .before in
     let S = R .before .before .before .before .before .before .before .before .before in
     let a = S .args in
-    save-done (lent S) (store S) _ _ (R .save-refusal .ensures) (E .if1 .left) _ (P .place-for .ensures) (L .if2 .left) _ _ _
+    save-done (lent S) (store S) _ _ (R .save-refusal .ensures) (E .if1 .left) _ (P .place-for .ensures) (L .if2 .left)
+    _ _ _
     (H .put-head .ensures ∙ ap (λ q. headed q (a .n) (a .name) (a .used) (a .heads .now)) (P .place-for .ensures))
-    (W .put-record .ensures .0 ∙ ap (λ q. placedAt q (a .neighbours .now) (a .held-neighbours .now)) (P .place-for .ensures))
+    (W .put-record .ensures .0 ∙ ap (λ q. placedAt q (a .neighbours .now) (a .held-neighbours .now))
+    (P .place-for .ensures))
     (W .put-record .ensures .1 ∙ ap (λ q. placedAt q (a .codes .now) (a .held-codes .now)) (P .place-for .ensures))
 
 pub save-spec : {M : Type 1} → statement M

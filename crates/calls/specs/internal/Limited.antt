@@ -1,4 +1,5 @@
--- The calls that compare, with a limit for the parts or without one: `compareCall` and `equivalentCall` are the two cases.
+-- The calls that compare, with a limit for the parts or without one: `compareCall` and `equivalentCall` are the two
+-- cases.
 use mathlib.Core.Bool.{Bool, _||_}
 use mathlib.Core.List.{_++_, List, [], _∷_}
 use Prim.Native.Nat.{ℕ}

@@ -14,7 +14,14 @@ use Rattle.claims.proofs.UsedDemandHolds.{reductions-unused}
 use Rattle.claims.proofs.families.Lists.{lists-accepted, lists-conform}
 use Rattle.claims.proofs.families.Shared.{answered, at-zero}
 use Rattle.claims.specs.Sentences.Lists.{CheckSays, ProductSays, ReadStringsSays, ReduceSays, WriteStringsSays}
-use Rattle.claims.proofs.NumbersHold.{check-words, in-words, product-words, read-words, reduce-words, write-words}
+use Rattle.claims.proofs.NumbersHold.{
+  check-words,
+  in-words,
+  product-words,
+  read-words,
+  reduce-words,
+  write-words,
+}
 use Rattle.claims.specs.Numbers.{checkSentences, productSentences, readSentences, reduceSentences, writeSentences}
 
 pub check-says : (l : GeneratorList) (r : ℕ) → Call (checkCall l) r → CheckSays l r

@@ -19,10 +19,25 @@ use Rattle.claims.proofs.ImageDemandHolds.{images-follow}
 use Rattle.claims.proofs.MeasurementsFollow.{measurements-follow}
 use Rattle.claims.proofs.RewritingsKeep.{complements-keep}
 use Rattle.claims.proofs.SecondDemandLists.{expansion-brings-back}
-use Rattle.claims.proofs.UsedDemandHolds.{accepted-measured-without, accepted-without, calls-copy, measurements-mark, second-measurements-refused, used-calls-refused}
+use Rattle.claims.proofs.UsedDemandHolds.{
+  accepted-measured-without,
+  accepted-without,
+  calls-copy,
+  measurements-mark,
+  second-measurements-refused,
+  used-calls-refused,
+}
 use Rattle.claims.proofs.families.Records.{records-accepted, records-conform}
 use Rattle.claims.proofs.families.Shared.{answered, at-zero}
-use Rattle.claims.specs.Sentences.Records.{ComplementSays, CutSays, CzSays, ExpandSays, GateSays, ImageSays, MeasureSays}
+use Rattle.claims.specs.Sentences.Records.{
+  ComplementSays,
+  CutSays,
+  CzSays,
+  ExpandSays,
+  GateSays,
+  ImageSays,
+  MeasureSays,
+}
 use Rattle.operations.proofs.UsedInWords.{complement-in-words, cz-in-words, gate-in-words, measure-in-words}
 use Rattle.operations.specs.UsedSentences.{complementSentences, czSentences, gateSentences, measureSentences}
 use Rattle.claims.proofs.NumbersHold.{cut-words, expand-words, image-words, in-words}
@@ -99,7 +114,8 @@ pub measure-says : (u : UsedRecord) (pauli q b answer determined : ℕ) (nb′ c
     MeasureSays u pauli q b answer determined nb′ cs′ used′ answer′ determined′ r
 measure-says u pauli q b answer determined nb′ cs′ used′ answer′ determined′ r C =
     record {
-      answered = answered (records-conform .measurements u pauli q b answer determined nb′ cs′ used′ answer′ determined′) C;
+      answered = answered (records-conform .measurements u pauli q b answer determined nb′ cs′ used′ answer′
+          determined′) C;
       accepted = records-accepted .measure u pauli q b answer determined nb′ cs′ used′ answer′ determined′ r C;
       numbers = in-words (measureSentences u pauli q b) (measure-in-words u pauli q b) C;
       group = λ z. measurements-follow (u .held) pauli q b answer determined nb′ cs′ answer′ determined′

@@ -23,7 +23,12 @@ use Rattle.claims.proofs.PartsDemandHolds.{small-parts}
 use Rattle.claims.proofs.ThirdDemandHolds.{third-demand}
 use Rattle.claims.proofs.families.Shared.{table-fills, written-fills}
 use Rattle.claims.specs.Conforming.{Conforms}
-use Rattle.claims.specs.families.Comparisons.{CompareFits, ComparisonBuffersUnread, ComparisonsAccepted, ComparisonsConform}
+use Rattle.claims.specs.families.Comparisons.{
+  CompareFits,
+  ComparisonBuffersUnread,
+  ComparisonsAccepted,
+  ComparisonsConform,
+}
 
 -- comparisons: an accepted one has few complementations, by demand 3
 compare-conforms : (l m : GeneratorList) (choice list : List ℕ) (count : ℕ) (choice′ list′ : List ℕ) (count′ : ℕ) →

@@ -17,7 +17,12 @@ use Rattle.jobs.specs.GeneratedLines.{generateLines, room}
 use Rattle.stabilizer.proofs.SharedTests.{count-passes, counted, has-length, length-passes}
 use Rattle.claims.proofs.families.Shared.{by-lines, written-fills}
 use Rattle.claims.specs.Conforming.{Conforms}
-use Rattle.claims.specs.families.Generator.{GenerateFits, GenerationBuffersUnread, GenerationsAccepted, GenerationsConform}
+use Rattle.claims.specs.families.Generator.{
+  GenerateFits,
+  GenerationBuffersUnread,
+  GenerationsAccepted,
+  GenerationsConform,
+}
 
 -- the generator
 generate-conforms : (n count seed : ℕ) (text : List ℕ) (size : ℕ) (text′ : List ℕ) (size′ : ℕ) →

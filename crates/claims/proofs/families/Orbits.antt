@@ -29,8 +29,15 @@ orbit-conforms : (n : ℕ) (neighbours list : List ℕ) (count : ℕ) (list′ :
 orbit-conforms n neighbours list count list′ count′ =
     record {
       order = refl;
-      complete = λ z. let A = accepted-graph n neighbours list z in
-          (written-fills (orbitOf n neighbours) list (omega (arith, orbit-length n (graphNumber n (graphIn neighbours)) (A .few), A .places)), (tt, tt));
+      complete = λ z. let A = accepted-graph n neighbours list z in (
+        written-fills (orbitOf n neighbours) list (omega (
+          arith,
+          orbit-length n (graphNumber n (graphIn neighbours))
+              (A .few),
+          A .places,
+        )),
+        (tt, tt),
+      );
     }
 
 -- orbits

@@ -1,4 +1,5 @@
--- Two parties on one record: the lines and answers of a party's calls are as demand 1 has them, and which arguments they
+-- Two parties on one record: the lines and answers of a party's calls are as demand 1 has them, and which arguments
+-- they
 -- accept.
 use mathlib.Core.Bool.{false, not, _||_}
 use mathlib.Core.List.{List}
@@ -49,7 +50,8 @@ in-order word g u (complementOf a) = refl
 in-order word g u (pivotOf j k) = refl
 
 -- the record's two buffers
-record-fills : (word g : ℕ) (u : UsedRecord) (o : Operation) (nb′ cs′ : List ℕ) → firstFitting (partyLines word g u o) ≡ 0
+record-fills : (word g : ℕ) (u : UsedRecord) (o : Operation) (nb′ cs′ : List ℕ) → firstFitting (partyLines word g u o) ≡
+    0
     → EachOf Fills (partyLent word g u o nb′ cs′)
 record-fills word g u o nb′ cs′ z =
     let A = accepted-step (u .held) o (used-step u o (party-passes word g u o z .lines)) in (
@@ -73,7 +75,8 @@ save-fills word g u name st z =
       (E .words ∙ sym (L .words), (E .codes ∙ sym (L .codes), tt)),
     )
 
-return-fills : (word g : ℕ) (u : UsedRecord) (name : ℕ) (st : Store) → firstFitting (partyNamedLines word g u name st) ≡ 0
+return-fills : (word g : ℕ) (u : UsedRecord) (name : ℕ) (st : Store) → firstFitting (partyNamedLines word g u name st) ≡
+    0
     → EachOf Fills ((partyReturnCall word g u name st (u .held .neighbours) (u .held .codes) (u .used)) .lent)
 return-fills word g u name st z =
     let A = with-last word g u st 16 (not (holdsName 4 ((ownPlaces g st) .heads) name)) .0 z .0 .held .held in (
@@ -146,10 +149,12 @@ module _ (word g : ℕ) (u : UsedRecord) where
         (h .0, owned (h .0) a (h .2 .1 .0) .1 (h .1), used-complement u a .1 (h .2))),
   )
 
-  save-exactly : (name : ℕ) (st : Store) → (firstFitting (partySaveLines word g u name st) ≡ 0) ↔ PartySaveFits word g u name st
+  save-exactly : (name : ℕ) (st : Store) → (firstFitting (partySaveLines word g u name st) ≡ 0) ↔ PartySaveFits word g u
+      name st
   save-exactly name st = with-last word g u st 17 (othersHeld 4 ((ownPlaces g st) .heads) name)
 
-  named-exactly : (name : ℕ) (st : Store) → (firstFitting (partyNamedLines word g u name st) ≡ 0) ↔ PartyNameFits word g u name st
+  named-exactly : (name : ℕ) (st : Store) → (firstFitting (partyNamedLines word g u name st) ≡ 0) ↔ PartyNameFits word g
+      u name st
   named-exactly name st = (
     (λ e. let h = with-last word g u st 16 (not (holdsName 4 ((ownPlaces g st) .heads) name)) .0 e in
         (h .0, not-false _ (h .1))),

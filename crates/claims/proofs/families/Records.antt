@@ -27,7 +27,13 @@ use Rattle.claims.proofs.LinesExactly.{below-exactly, more-exactly, rec
 use Rattle.claims.proofs.UsedExactly.{used-complement, used-cz, used-exactly, used-gate, used-measure}
 use Rattle.claims.proofs.families.Shared.{by-lines, of-three, table-fills, written-fills}
 use Rattle.claims.specs.Conforming.{Conforms, InOrder}
-use Rattle.claims.specs.families.Records.{CutFits, ImageFits, RecordBuffersUnread, RecordsAccepted, RecordsConform}
+use Rattle.claims.specs.families.Records.{
+  CutFits,
+  ImageFits,
+  RecordBuffersUnread,
+  RecordsAccepted,
+  RecordsConform,
+}
 
 -- calls in place
 in-order : (u : UsedRecord) (o : Operation) → InOrder (usedLinesOf u o)

@@ -1,4 +1,5 @@
--- Named states: the lines and answers of the calls on a store are as demand 1 has them, and which arguments they accept.
+-- Named states: the lines and answers of the calls on a store are as demand 1 has them, and which arguments they
+-- accept.
 use mathlib.Core.Bool.{false, not, _||_}
 use mathlib.Core.List.{List}
 use mathlib.Core.Logic.{Iff·trans, _↔_}
@@ -49,7 +50,10 @@ use Rattle.claims.specs.families.Stores.{
 
 -- ---- stores
 pub is-record : (u : UsedRecord) → (firstFitting (usedLines u false false false) ≡ 0) ↔ IsRecord u
-is-record u = ((λ e. used-exactly u false false false .0 e .0), (λ R. used-exactly u false false false .1 (R, refl, refl, refl)))
+is-record u = (
+  (λ e. used-exactly u false false false .0 e .0),
+  (λ R. used-exactly u false false false .1 (R, refl, refl, refl)),
+)
 
 is-store : (st : Store) → Passing 8 st → IsStore st
 is-store st P =
@@ -139,9 +143,14 @@ return-lines : (name : ℕ) (st : Store) (nb cs : List ℕ)
     → (firstFitting (namedLines 8 name st (otherThan 64 nb || otherThan 64 cs)) ≡ 0) ↔ ReturnFits name st nb cs
 return-lines name st nb cs = (
   (λ z. let o = otherThan 64 nb || otherThan 64 cs in
-      let f = neither (otherThan 64 nb) (otherThan 64 cs) (others-fit 8 st o (parts-named name st o z .0)) in
-      ((is-store st (named-passing name st o z), name-held name st o z), has-length 64 nb (f .0), has-length 64 cs (f .1))),
-  (λ F. ap (λ b. firstFitting (namedLines 8 name st b)) (ap₂ _||_ (length-passes 64 nb (F .1)) (length-passes 64 cs (F .2)))
+      let f = neither (otherThan 64 nb) (otherThan 64 cs) (others-fit 8 st o (parts-named name st o z .0)) in (
+        (is-store st (named-passing name st o z), name-held name st o z),
+        has-length 64 nb (f .0),
+        has-length 64 cs
+            (f .1),
+      )),
+  (λ F. ap (λ b. firstFitting (namedLines 8 name st b)) (ap₂ _||_ (length-passes 64 nb (F .1))
+      (length-passes 64 cs (F .2)))
       ∙ named-lines name st .1 (F .0)),
 )
 

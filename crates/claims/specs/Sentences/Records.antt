@@ -1,6 +1,7 @@
 -- What the documents say of each exported function on records, in one record: demand 1, which arguments it
 -- accepts, and the sentences of the demands and of the requests that speak of its answer. That it answers as expanding,
--- changing the list and reducing would, and that it is a step of a job and an action of a session, are theorems of their own
+-- changing the list and reducing would, and that it is a step of a job and an action of a session, are theorems of
+-- their own
 -- (`GatesByExpanding` and the like, `ContractsAreActions`).
 use mathlib.Core.Bool.{false, _||_}
 use mathlib.Core.List.{List}
@@ -21,10 +22,24 @@ use Rattle.words.specs.Bits.{Word}
 use Rattle.claims.specs.Conforming.{Answered}
 use Rattle.claims.specs.CutDemand.{CutAnswer, rankAcross}
 use Rattle.claims.specs.ImageDemand.{ImageDecided}
-use Rattle.claims.specs.OperationsDemand.{CzStands, GateStands, MeasurementStands, OutcomeContradicted, RewrittenAs}
+use Rattle.claims.specs.OperationsDemand.{
+  CzStands,
+  GateStands,
+  MeasurementStands,
+  OutcomeContradicted,
+  RewrittenAs,
+}
 use Rattle.claims.specs.SecondDemand.{BroughtBack}
 use Rattle.claims.specs.UsedDemand.{SixteenExactly, UsedCopied, UsedMarked}
-use Rattle.claims.specs.families.Records.{ComplementFits, CutFits, CzFits, ExpandFits, GateFits, ImageFits, MeasureFits}
+use Rattle.claims.specs.families.Records.{
+  ComplementFits,
+  CutFits,
+  CzFits,
+  ExpandFits,
+  GateFits,
+  ImageFits,
+  MeasureFits,
+}
 use Rattle.buffers.specs.Sentences.{FirstTrue}
 use Rattle.operations.specs.UsedSentences.{complementSentences, czSentences, gateSentences, measureSentences}
 use Rattle.claims.specs.Numbers.{expandSentences, imageSentences, withWordSentences}

@@ -20,7 +20,8 @@ use Rattle.claims.specs.families.Records.{ComplementFits, CzFits, GateFi
 
 -- demand 1 of each call: its lines stand in the published order, and its answers fill their buffers
 pub record PartiesConform : Type 0 where
-  pub in-place : (word g : ℕ) (u : UsedRecord) (o : Operation) (nb′ cs′ : List ℕ) → Conforms (partyCall word g u o nb′ cs′)
+  pub in-place : (word g : ℕ) (u : UsedRecord) (o : Operation) (nb′ cs′ : List ℕ) → Conforms
+      (partyCall word g u o nb′ cs′)
   pub measurements : (word g : ℕ) (u : UsedRecord) (pauli q b answer determined : ℕ) (nb′ cs′ : List ℕ)
       (used′ answer′ determined′ : ℕ) →
       Conforms (partyMeasureCall word g u pauli q b answer determined nb′ cs′ used′ answer′ determined′)
@@ -41,7 +42,8 @@ pub record TwoParties (word g : ℕ) (u : UsedRecord) : Type 0 where
 abbrev pub Own : ℕ → ℕ → ℕ → Type 0
 Own word g q = inParty word g q ≡ true
 
--- the party's four places in a store of eight: each state held there has 64 qubits and no neighbour outside the party, and
+-- the party's four places in a store of eight: each state held there has 64 qubits and no neighbour outside the party,
+-- and
 -- no name is held twice
 pub record OwnStates (word g : ℕ) (st : Store) : Type 0 where
   pub heads : length (st .heads) ≡ 24
@@ -71,7 +73,8 @@ PartyNameFits word g u name st = SharedFits word g u st × (holdsName 4 ((ownPla
 -- of each call: it is accepted exactly if its arguments fit
 pub record PartiesAccepted : Type 0 where
   pub gate : (word g : ℕ) (u : UsedRecord) (q k : ℕ) (nb′ cs′ : List ℕ) (r : ℕ) →
-      Call (partyCall word g u (gateWith q k) nb′ cs′) r → (r ≡ 0) ↔ (TwoParties word g u × Own word g q × GateFits u q k)
+      Call (partyCall word g u (gateWith q k) nb′ cs′) r → (r ≡ 0) ↔
+      (TwoParties word g u × Own word g q × GateFits u q k)
   pub cz : (word g : ℕ) (u : UsedRecord) (a b : ℕ) (nb′ cs′ : List ℕ) (r : ℕ) →
       Call (partyCall word g u (czOn a b) nb′ cs′) r →
       (r ≡ 0) ↔ (TwoParties word g u × (Own word g a × Own word g b) × CzFits u a b)

@@ -32,8 +32,22 @@ use Rattle.claims_parties.specs.Sentences.Parties.{
   GroupReturnSays,
   GroupSaveSays,
 }
-use Rattle.parties.specs.PartySentences.{partyComplementSentences, partyCzSentences, partyGateSentences, partyMeasureSentences, partyNamedSentences, partySaveSentences}
-use Rattle.parties.proofs.PartyInWords.{complement-in-words, cz-in-words, gate-in-words, measure-in-words, named-in-words, save-in-words}
+use Rattle.parties.specs.PartySentences.{
+  partyComplementSentences,
+  partyCzSentences,
+  partyGateSentences,
+  partyMeasureSentences,
+  partyNamedSentences,
+  partySaveSentences,
+}
+use Rattle.parties.proofs.PartyInWords.{
+  complement-in-words,
+  cz-in-words,
+  gate-in-words,
+  measure-in-words,
+  named-in-words,
+  save-in-words,
+}
 use Rattle.claims.proofs.NumbersHold.{in-words}
 
 module _ (word g : ℕ) (u : UsedRecord) where
@@ -61,7 +75,8 @@ module _ (word g : ℕ) (u : UsedRecord) where
         stands = λ z r″ nb″ cs″ W. party-calls-stand .cz word g u a b nb′ cs′ r″ nb″ cs″ (at-zero C z) W;
       }
 
-  pub group-complement-says : (a : ℕ) (nb′ cs′ : List ℕ) (r : ℕ) → Call (partyCall word g u (complementOf a) nb′ cs′) r →
+  pub group-complement-says : (a : ℕ) (nb′ cs′ : List ℕ) (r : ℕ) → Call (partyCall word g u (complementOf a) nb′ cs′) r
+      →
       GroupComplementSays word g u a nb′ cs′ r
   group-complement-says a nb′ cs′ r C =
       record {
@@ -89,9 +104,11 @@ module _ (word g : ℕ) (u : UsedRecord) where
         numbers = in-words (partyMeasureSentences word g u pauli q b) (measure-in-words word g u pauli q b) C;
         keeps = λ z. party-calls-keep .measure word g u pauli q b answer determined nb′ cs′ used′ answer′ determined′
             (at-zero C z);
-        reduces = λ z. party-calls-reduce .measure word g u pauli q b answer determined nb′ cs′ used′ answer′ determined′
+        reduces = λ z. party-calls-reduce .measure word g u pauli q b answer determined nb′ cs′ used′ answer′
+            determined′
             (at-zero C z);
-        stands = λ z r″ nb″ cs″ used″ answer″ determined″ W. party-calls-stand .measure word g u pauli q b answer determined
+        stands = λ z r″ nb″ cs″ used″ answer″ determined″ W. party-calls-stand .measure word g u pauli q b answer
+            determined
             nb′ cs′ used′ answer′ determined′ r″ nb″ cs″ used″ answer″ determined″ (at-zero C z) W;
       }
 

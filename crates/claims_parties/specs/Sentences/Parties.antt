@@ -1,5 +1,7 @@
--- What the documents say of the exported functions of a party (02, §13), a record for each: demand 1, which arguments it
--- accepts, what it leaves of the other party, and that its answer stands for what the whole-record call leaves. That each is a
+-- What the documents say of the exported functions of a party (02, §13), a record for each: demand 1, which arguments
+-- it
+-- accepts, what it leaves of the other party, and that its answer stands for what the whole-record call leaves. That
+-- each is a
 -- step of the runs of `NonInterference` is a theorem of its own (`ContractsAreSteps`).
 use mathlib.Core.List.{List, [], _∷_}
 use mathlib.Core.Logic.{_↔_, _⊎_}
@@ -34,7 +36,18 @@ use Rattle.claims_parties.specs.PartyKeeps.{
 }
 use Rattle.claims_parties.specs.PartiesDemand.{StandsAsWhole}
 use Rattle.buffers.specs.Sentences.{FirstTrue, Sentence, sentence}
-use Rattle.parties.specs.PartySentences.{EdgeBetween, NotSixtyFour, OtherParties, partyArgumentSentences, partyComplementSentences, partyCzSentences, partyGateSentences, partyMeasureSentences, partyNamedSentences, partySaveSentences}
+use Rattle.parties.specs.PartySentences.{
+  EdgeBetween,
+  NotSixtyFour,
+  OtherParties,
+  partyArgumentSentences,
+  partyComplementSentences,
+  partyCzSentences,
+  partyGateSentences,
+  partyMeasureSentences,
+  partyNamedSentences,
+  partySaveSentences,
+}
 
 -- "a group call leaves the group's elements as the whole-record call would"
 abbrev pub AsWhole : UsedRecord → Operation → List ℕ → List ℕ → Type 0
@@ -99,12 +112,18 @@ pub record GroupReturnSays (word g : ℕ) (u : UsedRecord) (name : ℕ) (st : St
   pub gives : r ≡ 0 → PartyReturnGives word g u name st (leftUsed u nb′ cs′ used′)
 
 -- sukhlent_group_forget
-pub record GroupForgetSays (word g : ℕ) (u : UsedRecord) (name : ℕ) (st : Store) (heads′ : List ℕ) (r : ℕ) : Type 0 where
-  pub answered : Answered (partyForgetCall word g u name st heads′) r
-  pub accepted : (r ≡ 0) ↔ PartyNameFits word g u name st
-  pub numbers : FirstTrue (partyNamedSentences word g u name st) r
-  pub not-held : PartyNotHeld word g u name st r
-  pub keeps : r ≡ 0 → PartyForgetKeeps g name st (record { heads = heads′; neighbours = st .neighbours; codes = st .codes })
+pub record GroupForgetSays (word g : ℕ) (u : UsedRecord) (name : ℕ) (st : Store) (heads′ : List ℕ) (r : ℕ) : Type 0
+  where
+    pub answered : Answered (partyForgetCall word g u name st heads′) r
+    pub accepted : (r ≡ 0) ↔ PartyNameFits word g u name st
+    pub numbers : FirstTrue (partyNamedSentences word g u name st) r
+    pub not-held : PartyNotHeld word g u name st r
+    pub keeps : r ≡ 0 → PartyForgetKeeps g name st (record {
+      heads = heads′;
+      neighbours = st .neighbours;
+      codes =
+          st .codes;
+    })
 
 -- sukhlent_group_observe: its outcome, determined bit and used word are those of the whole-record call too
 pub record GroupObserveSays (word g : ℕ) (u : UsedRecord) (pauli q b answer determined : ℕ) (nb′ cs′ : List ℕ)
@@ -122,7 +141,8 @@ pub record GroupObserveSays (word g : ℕ) (u : UsedRecord) (pauli q b answer de
       Call (observeCall u pauli q b answer determined nb″ cs″ used″ answer″ determined″) r″ →
       StandsAsWhole u nb′ cs′ r″ nb″ cs″ × (answer′ ≡ answer″) × (determined′ ≡ determined″) × (used′ ≡ used″)
 
--- the lines of a party's renewal. 6: the code is none of the six; 19: "checked directly before 8"; 20: the qubit is not used
+-- the lines of a party's renewal. 6: the code is none of the six; 19: "checked directly before 8"; 20: the qubit is not
+-- used
 abbrev pub partyRenewSentences : ℕ → ℕ → UsedRecord → ℕ → ℕ → List Sentence
 partyRenewSentences word g u q k =
     sentence 2 (NotSixtyFour u) ∷ sentence 4 (RecordMisfits (u .held)) ∷ sentence 5 (StrayBit u)

@@ -21,7 +21,8 @@ returns : tie.Need-returns
 returns c =
     let S = c .before .before .before .before .before .before in
     let a = S .args in (
-      leaves-refused (a .n) (a .neighbours .now) (a .codes .now) (a .neighbours2 .now) (a .codes2 .now) (a .component) (S .pre .0) (S .pre .1 .0) _ (c .before .spread .ensures)
+      leaves-refused (a .n) (a .neighbours .now) (a .codes .now) (a .neighbours2 .now) (a .codes2 .now) (a .component)
+          (S .pre .0) (S .pre .1 .0) _ (c .before .spread .ensures)
           (c .if1 .taken) (a .choice),
       S .pre .1 .1,
     )
@@ -61,9 +62,13 @@ compare-listed-requires c κs =
     let S = K .before .before .before .before .before .before .before in
     let a = S .args in
     let few = K .vertices .ensures .0 in (
-      subst (λ m. NumberedPair (a .n) (a .neighbours .now) (a .codes .now) (a .neighbours2 .now) (a .codes2 .now) (a .component) m (K .vertices .result .at)) (sym (part-long _ _ few refl))
-          (numbered-pair (a .n) (a .neighbours .now) (a .codes .now) (a .neighbours2 .now) (a .codes2 .now) (a .component) (S .pre .0) (S .pre .1 .0) (K .vertices .result .count) (K .vertices .result .at) few (K .vertices .ensures .1)
-          (kept-closed (a .n) (a .neighbours .now) (a .codes .now) (a .neighbours2 .now) (a .codes2 .now) (a .component) (S .pre .0) (S .pre .1 .0) _ (K .before .before .spread .ensures) (K .before .if1 .left))),
+      subst (λ m. NumberedPair (a .n) (a .neighbours .now) (a .codes .now) (a .neighbours2 .now) (a .codes2 .now)
+          (a .component) m (K .vertices .result .at)) (sym (part-long _ _ few refl))
+          (numbered-pair (a .n) (a .neighbours .now) (a .codes .now) (a .neighbours2 .now) (a .codes2 .now)
+          (a .component) (S .pre .0) (S .pre .1 .0) (K .vertices .result .count) (K .vertices .result .at) few
+          (K .vertices .ensures .1)
+          (kept-closed (a .n) (a .neighbours .now) (a .codes .now) (a .neighbours2 .now) (a .codes2 .now) (a .component)
+          (S .pre .0) (S .pre .1 .0) _ (K .before .before .spread .ensures) (K .before .if1 .left))),
       (
         (
           part-long _ _ few refl ∙ sym (part-long _ _ few refl),
@@ -81,20 +86,25 @@ returns-2 c =
     let K = L .before .before .before .before .before .before .before in
     let S = K .before .before .before .before .before .before .before in
     let a = S .args in (
-      part-refused (a .n) (a .neighbours .now) (a .codes .now) (a .neighbours2 .now) (a .codes2 .now) (a .component) (S .pre .0) (S .pre .1 .0) (K .vertices .result .count) (K .vertices .result .at)
+      part-refused (a .n) (a .neighbours .now) (a .codes .now) (a .neighbours2 .now) (a .codes2 .now) (a .component)
+          (S .pre .0) (S .pre .1 .0) (K .vertices .result .count) (K .vertices .result .at)
           (K .vertices .ensures .0) (K .vertices .ensures .1)
-          (kept-closed (a .n) (a .neighbours .now) (a .codes .now) (a .neighbours2 .now) (a .codes2 .now) (a .component) (S .pre .0) (S .pre .1 .0) _ (K .before .before .spread .ensures) (K .before .if1 .left))
+          (kept-closed (a .n) (a .neighbours .now) (a .codes .now) (a .neighbours2 .now) (a .codes2 .now) (a .component)
+          (S .pre .0) (S .pre .1 .0) _ (K .before .before .spread .ensures) (K .before .if1 .left))
           (L .compare-listed .result .found) (L .compare-listed .result .choice)
-          (subst (λ m. PartAnswer (a .n) (a .neighbours .now) (a .codes .now) (a .neighbours2 .now) (a .codes2 .now) m (K .vertices .result .at) (L .compare-listed .result .found)
+          (subst (λ m. PartAnswer (a .n) (a .neighbours .now) (a .codes .now) (a .neighbours2 .now) (a .codes2 .now) m
+          (K .vertices .result .at) (L .compare-listed .result .found)
           (L .compare-listed .result .choice))
-          (part-long _ _ (K .vertices .ensures .0) refl) (L .compare-listed .ensures .0)) (not-true _ (c .if2 .taken)) (a .choice),
+          (part-long _ _ (K .vertices .ensures .0) refl) (L .compare-listed .ensures .0)) (not-true _ (c .if2 .taken))
+          (a .choice),
       L .compare-listed .ensures .1,
     )
 
 -- src/lib.rt:112:9
 placed-requires : tie.Need-placed-requires
 placed-requires c κs =
-    let K = c .before .before .before .before .before .before .before .before .before .before .before .before .before .before in
+    let K = c .before .before .before .before .before .before .before .before .before .before .before .before .before
+    .before in
     let N = K .vertices .ensures in
     (N .0, N .1 .below, N .1 .rising)
 
@@ -106,13 +116,17 @@ returns-3 c =
     let K = L .before .before .before .before .before .before .before in
     let S = K .before .before .before .before .before .before .before in
     let a = S .args in (
-      part-accepted (a .n) (a .neighbours .now) (a .codes .now) (a .neighbours2 .now) (a .codes2 .now) (a .component) (S .pre .0) (S .pre .1 .0) (K .vertices .result .count) (K .vertices .result .at)
+      part-accepted (a .n) (a .neighbours .now) (a .codes .now) (a .neighbours2 .now) (a .codes2 .now) (a .component)
+          (S .pre .0) (S .pre .1 .0) (K .vertices .result .count) (K .vertices .result .at)
           (K .vertices .ensures .0) (K .vertices .ensures .1)
-          (kept-closed (a .n) (a .neighbours .now) (a .codes .now) (a .neighbours2 .now) (a .codes2 .now) (a .component) (S .pre .0) (S .pre .1 .0) _ (K .before .before .spread .ensures) (K .before .if1 .left))
+          (kept-closed (a .n) (a .neighbours .now) (a .codes .now) (a .neighbours2 .now) (a .codes2 .now) (a .component)
+          (S .pre .0) (S .pre .1 .0) _ (K .before .before .spread .ensures) (K .before .if1 .left))
           (L .compare-listed .result .found) (L .compare-listed .result .choice)
-          (subst (λ m. PartAnswer (a .n) (a .neighbours .now) (a .codes .now) (a .neighbours2 .now) (a .codes2 .now) m (K .vertices .result .at) (L .compare-listed .result .found)
+          (subst (λ m. PartAnswer (a .n) (a .neighbours .now) (a .codes .now) (a .neighbours2 .now) (a .codes2 .now) m
+          (K .vertices .result .at) (L .compare-listed .result .found)
           (L .compare-listed .result .choice))
-          (part-long _ _ (K .vertices .ensures .0) refl) (L .compare-listed .ensures .0)) (not-false _ (E .if2 .left)) (a .choice) _ (c .placed .ensures .0) (c .placed .ensures .1),
+          (part-long _ _ (K .vertices .ensures .0) refl) (L .compare-listed .ensures .0)) (not-false _ (E .if2 .left))
+          (a .choice) _ (c .placed .ensures .0) (c .placed .ensures .1),
       L .compare-listed .ensures .1,
     )
 

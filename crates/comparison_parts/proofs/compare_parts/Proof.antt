@@ -36,8 +36,11 @@ abbrev μ-loop : tie.MeasureT-loop
 loop-holds : tie.Need-loop-holds Inv-loop μ-loop
 loop-holds c =
     let S = c .before .before .before .before .before in
-    let a = S .args in
-    (progress-start (a .n) (a .neighbours .now) (a .codes .now) (a .neighbours2 .now) (a .codes2 .now) (S .pre .1) _ (c .mask .ensures) (replicate 64 0) (zeros-codes 64), empty-rows)
+    let a = S .args in (
+      progress-start (a .n) (a .neighbours .now) (a .codes .now) (a .neighbours2 .now) (a .codes2 .now) (S .pre .1) _
+          (c .mask .ensures) (replicate 64 0) (zeros-codes 64),
+      empty-rows,
+    )
 
 -- src/lib.rt:133:13
 -- src/lib.rt:134:13
@@ -49,7 +52,8 @@ part-requires c κs =
     let F = S .pre .1 .first in (
       (
         omega (arith, F .neighbours-long, S .pre .1 .upto),
-        vertex-in-buffer (a .n) (a .neighbours .now) (a .codes .now) (a .neighbours2 .now) (a .codes2 .now) (S .pre .1) (L .loop .rest) (L .loop .choice) (L .loop .inv .0)
+        vertex-in-buffer (a .n) (a .neighbours .now) (a .codes .now) (a .neighbours2 .now) (a .codes2 .now) (S .pre .1)
+            (L .loop .rest) (L .loop .choice) (L .loop .inv .0)
             (c .before .loop-test .taken) _ (c .smallest .ensures .0),
       ),
       subst (λ m. Simple m (graphIn (a .neighbours .now))) (sym (F .neighbours-long)) (F .simple),
@@ -65,7 +69,8 @@ compare-component-requires c κs =
     let a = S .args in (
       S .pre .1,
       (
-        next-component (a .n) (a .neighbours .now) (a .codes .now) (a .neighbours2 .now) (a .codes2 .now) (S .pre .1) (L .loop .rest) (L .loop .choice) (L .loop .inv .0)
+        next-component (a .n) (a .neighbours .now) (a .codes .now) (a .neighbours2 .now) (a .codes2 .now) (S .pre .1)
+            (L .loop .rest) (L .loop .choice) (L .loop .inv .0)
             (Q .before .loop-test .taken) _ (Q .smallest .ensures .0) _ (P .part .ensures),
         L .loop .inv .1,
       ),
@@ -80,7 +85,8 @@ returns c =
     let L = Q .before .before in
     let S = L .before .before .before .before .before .before in
     let a = S .args in
-    none-answer (a .n) (a .neighbours .now) (a .codes .now) (a .neighbours2 .now) (a .codes2 .now) (S .pre .1) (L .loop .rest) (L .loop .choice) (L .loop .inv .0)
+    none-answer (a .n) (a .neighbours .now) (a .codes .now) (a .neighbours2 .now) (a .codes2 .now) (S .pre .1)
+    (L .loop .rest) (L .loop .choice) (L .loop .inv .0)
     (Q .before .loop-test .taken) _ (Q .smallest .ensures .0) _ (P .part .ensures) _
     (subst (λ f. ComponentAnswer (a .n) (recordHeld (a .n) (a .neighbours .now) (a .codes .now))
     (recordHeld (a .n) (a .neighbours2 .now) (a .codes2 .now)) (P .part .result) (L .loop .choice) f
@@ -96,7 +102,8 @@ loop-less c =
     let L = Q .before .before in
     let S = L .before .before .before .before .before .before in
     let a = S .args in
-    rest-falls (a .n) (a .neighbours .now) (a .codes .now) (a .neighbours2 .now) (a .codes2 .now) (S .pre .1) (L .loop .rest) (L .loop .choice) (L .loop .inv .0)
+    rest-falls (a .n) (a .neighbours .now) (a .codes .now) (a .neighbours2 .now) (a .codes2 .now) (S .pre .1)
+    (L .loop .rest) (L .loop .choice) (L .loop .inv .0)
     (Q .before .loop-test .taken) _ (Q .smallest .ensures .0) _ (P .part .ensures)
 
 -- src/lib.rt:132:5
@@ -108,7 +115,8 @@ loop-again c =
     let L = Q .before .before in
     let S = L .before .before .before .before .before .before in
     let a = S .args in (
-      progress-step (a .n) (a .neighbours .now) (a .codes .now) (a .neighbours2 .now) (a .codes2 .now) (S .pre .1) (L .loop .rest) (L .loop .choice) (L .loop .inv .0)
+      progress-step (a .n) (a .neighbours .now) (a .codes .now) (a .neighbours2 .now) (a .codes2 .now) (S .pre .1)
+          (L .loop .rest) (L .loop .choice) (L .loop .inv .0)
           (Q .before .loop-test .taken) _ (Q .smallest .ensures .0) _ (P .part .ensures) _
           (subst (λ f. ComponentAnswer (a .n) (recordHeld (a .n) (a .neighbours .now) (a .codes .now))
           (recordHeld (a .n) (a .neighbours2 .now) (a .codes2 .now)) (P .part .result) (L .loop .choice) f
@@ -122,7 +130,8 @@ returns-2 : tie.Need-returns-2 Inv-loop μ-loop
 returns-2 c =
     let S = c .before .before .before .before .before .before .before in
     let a = S .args in
-    all-answer (a .n) (a .neighbours .now) (a .codes .now) (a .neighbours2 .now) (a .codes2 .now) (S .pre .1) (c .before .loop .rest) (c .before .loop .choice) (c .before .loop .inv .0)
+    all-answer (a .n) (a .neighbours .now) (a .codes .now) (a .neighbours2 .now) (a .codes2 .now) (S .pre .1)
+    (c .before .loop .rest) (c .before .loop .choice) (c .before .loop .inv .0)
     (c .loop-test .left)
 
 pub compare-parts-spec : {M : Type 1} → statement M

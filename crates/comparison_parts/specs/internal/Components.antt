@@ -49,7 +49,8 @@ partOfRecord k at r =
 -- the least choice of a part, or that it has none
 abbrev pub PartAnswer : ℕ → List ℕ → List ℕ → List ℕ → List ℕ → ℕ → List ℕ → Bool → List ℕ → Type 0
 PartAnswer n nb cs nb₂ cs₂ k at =
-    LeastAnswer k (rowsOf k (partOfRecord k at (recordHeld n nb cs))) (rowsOf k (partOfRecord k at (recordHeld n nb₂ cs₂)))
+    LeastAnswer k (rowsOf k (partOfRecord k at (recordHeld n nb cs)))
+    (rowsOf k (partOfRecord k at (recordHeld n nb₂ cs₂)))
 
 -- the word marks the part of some vertex
 pub record Component (n : ℕ) (nb : List ℕ) (component : ℕ) : Type 0 where
@@ -57,8 +58,10 @@ pub record Component (n : ℕ) (nb : List ℕ) (component : ℕ) : Type 0 where
   pub below : vertex < n
   pub word : PartWord n (graphIn nb) vertex component
 
--- one part is compared: it has no working choice, and so there is none at all; or the choice is the least at its vertices
-pub record ComponentAnswer (n : ℕ) (r t : GraphRecord) (component : ℕ) (old : List ℕ) (found : Bool) (new : List ℕ) : Type
+-- one part is compared: it has no working choice, and so there is none at all; or the choice is the least at its
+-- vertices
+pub record ComponentAnswer (n : ℕ) (r t : GraphRecord) (component : ℕ) (old : List ℕ) (found : Bool) (new : List ℕ) :
+    Type
     0 where
   pub none : found ≡ false → (d : ℕ → Clifford) → Carries n d (rowsOf n r) (rowsOf n t) → ⊥
   pub least-at : found ≡ true → (q : ℕ) → q < n → bit component q ≡ true → LeastAt n r t (codesOf new) q

@@ -25,7 +25,8 @@ least-classes-requires c κs =
     let T = c .before .class-table in (
       s .pre .0 .few,
       T .ensures .triangular,
-      classes-extend (a .n) (generatorsIn (a .first .now)) (generatorsIn (a .second .now)) (a .frame) (s .pre .0) (equationsIn (T .last .0)) (T .ensures),
+      classes-extend (a .n) (generatorsIn (a .first .now)) (generatorsIn (a .second .now)) (a .frame) (s .pre .0)
+          (equationsIn (T .last .0)) (T .ensures),
     )
 
 wipe-requires : tie.Need-wipe-requires
@@ -34,7 +35,8 @@ wipe-requires c κs =
     let a = s .args in
     let T = c .before .before .before .class-table in (
       omega (arith, s .pre .0 .few),
-      class-ends (a .n) (generatorsIn (a .first .now)) (generatorsIn (a .second .now)) (a .frame) (s .pre .0) (equationsIn (T .last .0)) (T .ensures),
+      class-ends (a .n) (generatorsIn (a .first .now)) (generatorsIn (a .second .now)) (a .frame) (s .pre .0)
+          (equationsIn (T .last .0)) (T .ensures),
     )
 
 returns : tie.Need-returns
@@ -44,11 +46,15 @@ returns c =
     let T = c .before .before .before .before .before .before .class-table in
     let A = c .before .before .before .before .least-classes in
     let none = not-true (A .result .found) (c .if1 .taken) in (
-      subst (λ b. LeastAnswer (a .n) (generatorsOf (generatorsIn (a .first .now))) (generatorsOf (generatorsIn (a .second .now))) b (A .result .choice)) (sym none)
-          (least-answer (a .n) (generatorsOf (generatorsIn (a .first .now))) (generatorsOf (generatorsIn (a .second .now))) (s .pre .0 .proper .within)
-          (framed-proper (a .n) (generatorsOf (generatorsIn (a .second .now))) (codesOf (a .frame)) (s .pre .0 .framed) .within) false
+      subst (λ b. LeastAnswer (a .n) (generatorsOf (generatorsIn (a .first .now)))
+          (generatorsOf (generatorsIn (a .second .now))) b (A .result .choice)) (sym none)
+          (least-answer (a .n) (generatorsOf (generatorsIn (a .first .now)))
+          (generatorsOf (generatorsIn (a .second .now))) (s .pre .0 .proper .within)
+          (framed-proper (a .n) (generatorsOf (generatorsIn (a .second .now))) (codesOf (a .frame))
+          (s .pre .0 .framed) .within) false
           (A .result .choice)
-          (none-works (a .n) (generatorsIn (a .first .now)) (generatorsIn (a .second .now)) (a .frame) (s .pre .0) (equationsIn (T .last .0)) (T .ensures) (A .result .found)
+          (none-works (a .n) (generatorsIn (a .first .now)) (generatorsIn (a .second .now)) (a .frame) (s .pre .0)
+          (equationsIn (T .last .0)) (T .ensures) (A .result .found)
           (A .result .choice) (A .ensures) none)),
       c .before .before .wipe .ensures,
     )
@@ -62,7 +68,8 @@ sign-table-requires c κs =
     let C = A .ensures .some (not-false (A .result .found) (c .before .before .if1 .left)) in (
       (s .pre .0, C .codes, C .bare-codes),
       (
-        classes-send (a .n) (generatorsIn (a .first .now)) (generatorsIn (a .second .now)) (a .frame) (s .pre .0) (equationsIn (T .last .0)) (T .ensures)
+        classes-send (a .n) (generatorsIn (a .first .now)) (generatorsIn (a .second .now)) (a .frame) (s .pre .0)
+            (equationsIn (T .last .0)) (T .ensures)
             (codesOf (A .result .choice)) (C .chosen .hold),
         c .before .before .before .before .wipe .ensures,
       ),
@@ -79,9 +86,11 @@ least-signs-requires c κs =
       (
         s .pre .0 .few,
         U .ensures .0 .triangular,
-        signs-extend (a .n) (generatorsIn (a .first .now)) (generatorsIn (a .second .now)) (a .frame) (s .pre .0) (codesOf (A .result .choice))
+        signs-extend (a .n) (generatorsIn (a .first .now)) (generatorsIn (a .second .now)) (a .frame) (s .pre .0)
+            (codesOf (A .result .choice))
             (equationsIn (U .last .0)) (U .ensures)
-            (classes-send (a .n) (generatorsIn (a .first .now)) (generatorsIn (a .second .now)) (a .frame) (s .pre .0) (equationsIn (T .last .0)) (T .ensures)
+            (classes-send (a .n) (generatorsIn (a .first .now)) (generatorsIn (a .second .now)) (a .frame) (s .pre .0)
+            (equationsIn (T .last .0)) (T .ensures)
             (codesOf (A .result .choice)) (C .chosen .hold)),
       ),
       A .ensures .codes,
@@ -89,27 +98,35 @@ least-signs-requires c κs =
 
 wipe-requires-2 : tie.Need-wipe-requires-2
 wipe-requires-2 c κs =
-    let s = c .before .before .before .before .before .before .before .before .before .before .before .before .before .before in
+    let s = c .before .before .before .before .before .before .before .before .before .before .before .before .before
+    .before in
     let a = s .args in
     let A = c .before .before .before .before .before .before .before .before .before .before .least-classes in
     let U = c .before .before .before .sign-table in (
       omega (arith, s .pre .0 .few),
-      sign-ends (a .n) (generatorsIn (a .first .now)) (generatorsIn (a .second .now)) (a .frame) (s .pre .0) (equationsIn (U .last .0)) (codesOf (A .result .choice)) (U .ensures),
+      sign-ends (a .n) (generatorsIn (a .first .now)) (generatorsIn (a .second .now)) (a .frame) (s .pre .0)
+          (equationsIn (U .last .0)) (codesOf (A .result .choice)) (U .ensures),
     )
 
 returns-2 : tie.Need-returns-2
 returns-2 c =
-    let s = c .before .before .before .before .before .before .before .before .before .before .before .before .before .before .before in
+    let s = c .before .before .before .before .before .before .before .before .before .before .before .before .before
+    .before .before in
     let a = s .args in
-    let T = c .before .before .before .before .before .before .before .before .before .before .before .before .before .class-table in
+    let T = c .before .before .before .before .before .before .before .before .before .before .before .before .before
+    .class-table in
     let A = c .before .before .before .before .before .before .before .before .before .before .before .least-classes in
-    let C = A .ensures .some (not-false (A .result .found) (c .before .before .before .before .before .before .before .if1 .left)) in
+    let C = A .ensures .some
+    (not-false (A .result .found) (c .before .before .before .before .before .before .before .if1 .left)) in
     let U = c .before .before .before .before .sign-table in
     let L = c .before .before .least-signs in (
-      least-answer (a .n) (generatorsOf (generatorsIn (a .first .now))) (generatorsOf (generatorsIn (a .second .now))) (s .pre .0 .proper .within)
-          (framed-proper (a .n) (generatorsOf (generatorsIn (a .second .now))) (codesOf (a .frame)) (s .pre .0 .framed) .within) true
+      least-answer (a .n) (generatorsOf (generatorsIn (a .first .now))) (generatorsOf (generatorsIn (a .second .now)))
+          (s .pre .0 .proper .within)
+          (framed-proper (a .n) (generatorsOf (generatorsIn (a .second .now))) (codesOf (a .frame))
+          (s .pre .0 .framed) .within) true
           (L .result)
-          (chosen-works (a .n) (generatorsIn (a .first .now)) (generatorsIn (a .second .now)) (a .frame) (s .pre .0) (equationsIn (T .last .0)) (T .ensures)
+          (chosen-works (a .n) (generatorsIn (a .first .now)) (generatorsIn (a .second .now)) (a .frame) (s .pre .0)
+          (equationsIn (T .last .0)) (T .ensures)
           (A .result .choice) C (equationsIn (U .last .0)) (U .ensures) (L .result) (L .ensures)),
       c .wipe2 .ensures,
     )

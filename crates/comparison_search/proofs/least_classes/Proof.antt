@@ -58,7 +58,8 @@ loop-again c =
     let more = c .before .before .before .loop-test .taken in
     let v = c .before .before .least-class in
     let inside : l .q < length (l .choice) = omega (arith, s .pre .0, more, l .inv .0 .long) in (
-      classes-more (s .args .n) (s .pre .0) (equationsIn (s .args .table .now)) (s .pre .1) (s .pre .2) (l .q) (l .choice)
+      classes-more (s .args .n) (s .pre .0) (equationsIn (s .args .table .now)) (s .pre .1) (s .pre .2) (l .q)
+          (l .choice)
           (l .inv .0) more (v .result) (v .ensures (s .args .n) (l .choice) more inside (l .inv .1))
           (omega (arith, c .before .if1 .left)),
       c .with-class .ensures (s .args .n) (l .choice) more inside (l .inv .1),

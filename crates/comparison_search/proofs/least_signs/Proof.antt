@@ -21,7 +21,8 @@ abbrev μ-loop : tie.MeasureT-loop
 loop-holds : tie.Need-loop-holds Inv-loop μ-loop
 loop-holds c =
     let s = c .before in (
-      signs-begin (s .args .n) (equationsIn (s .args .table .now)) (s .args .classes) (s .good .1 .1 .0 .1 .0 .1) (s .pre .1),
+      signs-begin (s .args .n) (equationsIn (s .args .table .now)) (s .args .classes) (s .good .1 .1 .0 .1 .0 .1)
+          (s .pre .1),
       c .sign-words .ensures,
     )
 
@@ -38,7 +39,8 @@ mul-choice c =
     let more = c .before .loop-test .taken in
     let inside : l .q < length (l .choice) = omega (arith, s .pre .0 .0, more, l .inv .0 .long) in
     let small =
-    signs-fit (s .args .n) (s .pre .0 .0) (equationsIn (s .args .table .now)) (s .pre .0 .1) (s .pre .0 .2) (s .args .classes)
+    signs-fit (s .args .n) (s .pre .0 .0) (equationsIn (s .args .table .now)) (s .pre .0 .1) (s .pre .0 .2)
+    (s .args .classes)
     (l .q) (l .choice) (l .inv .0) more (c .least-sign .result)
     (c .least-sign .ensures (s .args .n) (l .choice) more inside (l .inv .1)) in
     let code = l .inv .0 .codes (l .q) in
@@ -51,7 +53,8 @@ add-choice c =
     let more = c .before .loop-test .taken in
     let inside : l .q < length (l .choice) = omega (arith, s .pre .0 .0, more, l .inv .0 .long) in
     let small =
-    signs-fit (s .args .n) (s .pre .0 .0) (equationsIn (s .args .table .now)) (s .pre .0 .1) (s .pre .0 .2) (s .args .classes)
+    signs-fit (s .args .n) (s .pre .0 .0) (equationsIn (s .args .table .now)) (s .pre .0 .1) (s .pre .0 .2)
+    (s .args .classes)
     (l .q) (l .choice) (l .inv .0) more (c .least-sign .result)
     (c .least-sign .ensures (s .args .n) (l .choice) more inside (l .inv .1)) in
     let code = l .inv .0 .codes (l .q) in
@@ -85,5 +88,6 @@ returns c =
 pub least-signs-spec : {M : Type 1} → statement M
 least-signs-spec =
     tie.close
-    (tie.spec Inv-loop μ-loop (λ c κs. search needs) loop-holds least-sign-requires array-read-choice mul-choice add-choice
+    (tie.spec Inv-loop μ-loop (λ c κs. search needs) loop-holds least-sign-requires array-read-choice mul-choice
+    add-choice
     array-write-choice with-signs-requires (λ c. search needs) (λ c. omega arith) loop-again returns)

@@ -42,7 +42,8 @@ returns c =
     let a = s .args in
     records-answer (a .n) (s .pre .0 .0) (a .neighbours .now) (a .codes .now) (a .neighbours2 .now)
     (a .codes2 .now) (s .pre .0 .1) (s .pre .1 .0) (generatorsIn (G .generators .last .1 .1 .1 .0))
-    (generatorsIn (H .generators2 .last .1 .1 .1 .0)) (I .inverses .result) (G .generators .ensures) (H .generators2 .ensures)
+    (generatorsIn (H .generators2 .last .1 .1 .1 .0)) (I .inverses .result) (G .generators .ensures)
+    (H .generators2 .ensures)
     (c .least-choice .result .found) (c .least-choice .result .choice) (c .least-choice .ensures)
 
 pub search-records-spec : {M : Type 1} → statement M

@@ -29,7 +29,11 @@ shared-slice-read-t11 c = c .before .before .before .loop-test .taken
 
 single-requires : tie.Need-single-requires Inv-loop μ-loop
 single-requires c κs =
-    omega (arith, c .before .before .before .loop-test .taken, c .before .before .before .before .before .before .pre .0)
+    omega (
+      arith,
+      c .before .before .before .loop-test .taken,
+      c .before .before .before .before .before .before .pre .0,
+    )
 
 loop-again : tie.Need-loop-again Inv-loop μ-loop
 loop-again c =
@@ -48,7 +52,8 @@ loop-again c =
     (c .if1 .came)
 
 returns : tie.Need-returns Inv-loop μ-loop
-returns c = whole-element _ _ (c .before .loop .j) (c .before .loop .element) (c .loop-test .left) (c .before .loop .inv)
+returns c = whole-element _ _ (c .before .loop .j) (c .before .loop .element) (c .loop-test .left)
+    (c .before .loop .inv)
 
 pub graph-element-spec : {M : Type 1} → statement M
 graph-element-spec =

@@ -18,7 +18,8 @@ returns-2 : tie.Need-returns-2
 returns-2 c =
     let a = c .before .before .before .before .before .args in
     byte-of-signs (eqb (a .element .phase) 2) (a .row .minus)
-    ∙ sym (ap (λ b. cond b (digit (eqb (a .element .phase) 2 ⊕ a .row .minus)) 2) (eq-eqb _ _ (c .before .before .if1 .left)))
+    ∙ sym (ap (λ b. cond b (digit (eqb (a .element .phase) 2 ⊕ a .row .minus)) 2)
+    (eq-eqb _ _ (c .before .before .if1 .left)))
 
 pub read-spec : {M : Type 1} → statement M
 read-spec = tie.close (tie.spec returns (λ c. search needs) returns-2)

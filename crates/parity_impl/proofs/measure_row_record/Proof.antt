@@ -10,8 +10,10 @@ use Rattle.parity_impl.proofs.measure_row_record.Tie as tie
 
 row-value-requires : tie.Need-row-value-requires
 row-value-requires c κs =
-    let S = c .before .before .before .before in
-    (accepted-record (recordIn (S .args .neighbours .now) (S .args .codes .now)) false false (S .pre .0 .no-line), S .pre .1)
+    let S = c .before .before .before .before in (
+      accepted-record (recordIn (S .args .neighbours .now) (S .args .codes .now)) false false (S .pre .0 .no-line),
+      S .pre .1,
+    )
 
 measure-open-requires : tie.Need-measure-open-requires
 measure-open-requires c κs =

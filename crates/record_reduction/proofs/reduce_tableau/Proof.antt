@@ -109,7 +109,8 @@ abbrev μ-loop4 : tie.MeasureT-loop4
 
 -- row q multiplied into others
 abbrev Inv-loop5 : tie.InvT-loop5
-Inv-loop5 signs₀ n neighbours codes rows₀ all k pivots hadamards round q holders j free by-z by-x rest₀ signs rows rest =
+Inv-loop5 signs₀ n neighbours codes rows₀ all k pivots hadamards round q holders j free by-z by-x rest₀ signs rows rest
+    =
     Sheared rows₀ (withoutSign signs₀ (bit signs₀ q) rest₀) q rest₀ rows (withoutSign signs (bit signs₀ q) rest) rest
 
 abbrev μ-loop5 : tie.MeasureT-loop5
@@ -155,18 +156,22 @@ InLoop3 = tie.In-loop3 Inv-loop μ-loop Inv-loop4 μ-loop4 Inv-loop5 μ-loop5 In
     μ-loop2
 
 abbrev AfterLoop4 : Type 0
-AfterLoop4 = tie.After-loop4 Inv-loop μ-loop Inv-loop4 μ-loop4 Inv-loop5 μ-loop5 Inv-loop3 μ-loop3 Inv-loop6 μ-loop6 Inv-loop2
+AfterLoop4 = tie.After-loop4 Inv-loop μ-loop Inv-loop4 μ-loop4 Inv-loop5 μ-loop5 Inv-loop3 μ-loop3 Inv-loop6 μ-loop6
+    Inv-loop2
     μ-loop2
 
 abbrev Then2 : Type 0
-Then2 = tie.Then2 Inv-loop μ-loop Inv-loop4 μ-loop4 Inv-loop5 μ-loop5 Inv-loop3 μ-loop3 Inv-loop6 μ-loop6 Inv-loop2 μ-loop2
+Then2 = tie.Then2 Inv-loop μ-loop Inv-loop4 μ-loop4 Inv-loop5 μ-loop5 Inv-loop3 μ-loop3 Inv-loop6 μ-loop6 Inv-loop2
+    μ-loop2
 
 abbrev AfterSmallest : Type 0
-AfterSmallest = tie.After-smallest Inv-loop μ-loop Inv-loop4 μ-loop4 Inv-loop5 μ-loop5 Inv-loop3 μ-loop3 Inv-loop6 μ-loop6
+AfterSmallest = tie.After-smallest Inv-loop μ-loop Inv-loop4 μ-loop4 Inv-loop5 μ-loop5 Inv-loop3 μ-loop3 Inv-loop6
+    μ-loop6
     Inv-loop2 μ-loop2
 
 abbrev Then3 : Type 0
-Then3 = tie.Then3 Inv-loop μ-loop Inv-loop4 μ-loop4 Inv-loop5 μ-loop5 Inv-loop3 μ-loop3 Inv-loop6 μ-loop6 Inv-loop2 μ-loop2
+Then3 = tie.Then3 Inv-loop μ-loop Inv-loop4 μ-loop4 Inv-loop5 μ-loop5 Inv-loop3 μ-loop3 Inv-loop6 μ-loop6 Inv-loop2
+    μ-loop2
 
 abbrev AfterFlipWhere2 : Type 0
 AfterFlipWhere2 = tie.After-flip-where2 Inv-loop μ-loop Inv-loop4 μ-loop4 Inv-loop5 μ-loop5 Inv-loop3 μ-loop3 Inv-loop6
@@ -181,11 +186,13 @@ AfterPutBit = tie.After-put-bit Inv-loop μ-loop Inv-loop4 μ-loop4 Inv-loop5 μ
     Inv-loop2 μ-loop2
 
 abbrev AfterRowKnown : Type 0
-AfterRowKnown = tie.After-row-known Inv-loop μ-loop Inv-loop4 μ-loop4 Inv-loop5 μ-loop5 Inv-loop3 μ-loop3 Inv-loop6 μ-loop6
+AfterRowKnown = tie.After-row-known Inv-loop μ-loop Inv-loop4 μ-loop4 Inv-loop5 μ-loop5 Inv-loop3 μ-loop3 Inv-loop6
+    μ-loop6
     Inv-loop2 μ-loop2
 
 abbrev AfterSmallest2 : Type 0
-AfterSmallest2 = tie.After-smallest2 Inv-loop μ-loop Inv-loop4 μ-loop4 Inv-loop5 μ-loop5 Inv-loop3 μ-loop3 Inv-loop6 μ-loop6
+AfterSmallest2 = tie.After-smallest2 Inv-loop μ-loop Inv-loop4 μ-loop4 Inv-loop5 μ-loop5 Inv-loop3 μ-loop3 Inv-loop6
+    μ-loop6
     Inv-loop2 μ-loop2
 
 abbrev AfterWithoutSmallest : Type 0
@@ -193,26 +200,32 @@ AfterWithoutSmallest = tie.After-without-smallest Inv-loop μ-loop Inv-loop4 μ-
     Inv-loop6 μ-loop6 Inv-loop2 μ-loop2
 
 abbrev AfterLoop5 : Type 0
-AfterLoop5 = tie.After-loop5 Inv-loop μ-loop Inv-loop4 μ-loop4 Inv-loop5 μ-loop5 Inv-loop3 μ-loop3 Inv-loop6 μ-loop6 Inv-loop2
+AfterLoop5 = tie.After-loop5 Inv-loop μ-loop Inv-loop4 μ-loop4 Inv-loop5 μ-loop5 Inv-loop3 μ-loop3 Inv-loop6 μ-loop6
+    Inv-loop2
     μ-loop2
 
 abbrev AfterLoop3 : Type 0
-AfterLoop3 = tie.After-loop3 Inv-loop μ-loop Inv-loop4 μ-loop4 Inv-loop5 μ-loop5 Inv-loop3 μ-loop3 Inv-loop6 μ-loop6 Inv-loop2
+AfterLoop3 = tie.After-loop3 Inv-loop μ-loop Inv-loop4 μ-loop4 Inv-loop5 μ-loop5 Inv-loop3 μ-loop3 Inv-loop6 μ-loop6
+    Inv-loop2
     μ-loop2
 
 abbrev Then4 : Type 0
-Then4 = tie.Then4 Inv-loop μ-loop Inv-loop4 μ-loop4 Inv-loop5 μ-loop5 Inv-loop3 μ-loop3 Inv-loop6 μ-loop6 Inv-loop2 μ-loop2
+Then4 = tie.Then4 Inv-loop μ-loop Inv-loop4 μ-loop4 Inv-loop5 μ-loop5 Inv-loop3 μ-loop3 Inv-loop6 μ-loop6 Inv-loop2
+    μ-loop2
 
 abbrev AfterLoop2 : Type 0
-AfterLoop2 = tie.After-loop2 Inv-loop μ-loop Inv-loop4 μ-loop4 Inv-loop5 μ-loop5 Inv-loop3 μ-loop3 Inv-loop6 μ-loop6 Inv-loop2
+AfterLoop2 = tie.After-loop2 Inv-loop μ-loop Inv-loop4 μ-loop4 Inv-loop5 μ-loop5 Inv-loop3 μ-loop3 Inv-loop6 μ-loop6
+    Inv-loop2
     μ-loop2
 
 -- ---- places and what they have
-abbrev start-2 : AtLoop2 → tie.Start Inv-loop μ-loop Inv-loop4 μ-loop4 Inv-loop5 μ-loop5 Inv-loop3 μ-loop3 Inv-loop6 μ-loop6
+abbrev start-2 : AtLoop2 → tie.Start Inv-loop μ-loop Inv-loop4 μ-loop4 Inv-loop5 μ-loop5 Inv-loop3 μ-loop3 Inv-loop6
+    μ-loop6
     Inv-loop2 μ-loop2
 start-2 c = c .before .before .before .before .before .before
 
-abbrev start-3 : InLoop3 → tie.Start Inv-loop μ-loop Inv-loop4 μ-loop4 Inv-loop5 μ-loop5 Inv-loop3 μ-loop3 Inv-loop6 μ-loop6
+abbrev start-3 : InLoop3 → tie.Start Inv-loop μ-loop Inv-loop4 μ-loop4 Inv-loop5 μ-loop5 Inv-loop3 μ-loop3 Inv-loop6
+    μ-loop6
     Inv-loop2 μ-loop2
 start-3 c = start-2 (c .before .before .before)
 
@@ -233,14 +246,16 @@ free-in c = bitXor (c .before .before .loop4 .holders) (bitAnd (c .before .befor
 
 -- the rows after row q was lent the bit, by the first of them
 abbrev lent-in : Then2 → ℕ → Pauli
-lent-in c = shear 64 (rows-in (turn c)) (trailingZeros 64 (free-in c)) (lend (rows-in (turn c)) ((turn c) .before .loop3 .q))
+lent-in c = shear 64 (rows-in (turn c)) (trailingZeros 64 (free-in c))
+    (lend (rows-in (turn c)) ((turn c) .before .loop3 .q))
 
 -- the array with the row that was lent a bit
 abbrev rows-lent : AfterFlipWhere2 → List (List ℕ)
 rows-lent c =
     let M = c .before .before .before .before .before .before in
     let L = (turn (M .before .before .before)) .before .loop3 in
-    set (L .rows) (L .q) (bitXor (getD (getD (L .rows) (L .q) []) 0 0) (getD (getD (L .rows) (M .smallest .result) []) 0 0)
+    set (L .rows) (L .q) (bitXor (getD (getD (L .rows) (L .q) []) 0 0)
+    (getD (getD (L .rows) (M .smallest .result) []) 0 0)
     ∷ bitXor (getD (getD (L .rows) (L .q) []) 1 0) (getD (getD (L .rows) (M .smallest .result) []) 1 0) ∷ [])
 
 -- before row q is multiplied into others: its number, the signs with its own laid on, and without
@@ -251,7 +266,8 @@ abbrev signs-laid : AfterRowKnown → ℕ
 signs-laid c = bitXor (c .before .before .before .before .before .if3 .signs) (c .before .where-true .result)
 
 abbrev signs-before : AfterRowKnown → Word
-signs-before c = withoutSign (signs-laid c) (bit (signs-laid c) (column-laid c)) (c .before .before .before .put-bit .result)
+signs-before c = withoutSign (signs-laid c) (bit (signs-laid c) (column-laid c))
+    (c .before .before .before .put-bit .result)
 
 -- ---- the signs made relative
 loop-holds : tie.Need-loop-holds Inv-loop μ-loop Inv-loop4 μ-loop4 Inv-loop5 μ-loop5 Inv-loop3 μ-loop3 Inv-loop6 μ-loop6
@@ -275,14 +291,16 @@ related : (c : AtLoop2) (j : ℕ)
 related c =
     let S = (start-2 c) in
     let L = c .before .before .loop in
-    paired-end (S .args .t1) (S .args .signs) (S .args .n) (L .signs) (L .k) (L .inv) (c .before .loop-test .left) (S .pre .1)
+    paired-end (S .args .t1) (S .args .signs) (S .args .n) (L .signs) (L .k) (L .inv) (c .before .loop-test .left)
+    (S .pre .1)
 
 loaded : (c : AtLoop2) → Loaded ((start-2 c) .args .n) (relative (bit (c .before .before .loop .signs)) ((start-2
     c) .args .t1))
 loaded c = related-loaded ((start-2 c) .args .n) (related c) ((start-2 c) .pre .1)
 
 -- ---- the rounds
-loop2-holds : tie.Need-loop2-holds Inv-loop μ-loop Inv-loop4 μ-loop4 Inv-loop5 μ-loop5 Inv-loop3 μ-loop3 Inv-loop6 μ-loop6
+loop2-holds : tie.Need-loop2-holds Inv-loop μ-loop Inv-loop4 μ-loop4 Inv-loop5 μ-loop5 Inv-loop3 μ-loop3 Inv-loop6
+    μ-loop6
     Inv-loop2 μ-loop2
 loop2-holds c =
     let K = c .before in
@@ -304,12 +322,14 @@ loaded2 c =
     (L .round) (L .inv .0) (c .loop2-test .taken)
 
 -- ---- a pass
-loop3-holds : tie.Need-loop3-holds Inv-loop μ-loop Inv-loop4 μ-loop4 Inv-loop5 μ-loop5 Inv-loop3 μ-loop3 Inv-loop6 μ-loop6
+loop3-holds : tie.Need-loop3-holds Inv-loop μ-loop Inv-loop4 μ-loop4 Inv-loop5 μ-loop5 Inv-loop3 μ-loop3 Inv-loop6
+    μ-loop6
     Inv-loop2 μ-loop2
 loop3-holds c =
     (zero-le, c .before .loop2 .inv .1, start)
 
-loaded3 : (c : InLoop3) → Loaded ((start-3 c) .args .n) (relative (bit (c .before .loop3 .signs)) (c .before .loop3 .rows))
+loaded3 : (c : InLoop3) → Loaded ((start-3 c) .args .n) (relative (bit (c .before .loop3 .signs))
+    (c .before .loop3 .rows))
 loaded3 c =
     let I = c .before .before in
     eliminated-loaded ((start-3 c) .args .n) ((start-3 c) .pre .0 .1) (loaded2 I) (c .before .loop3 .inv .2)
@@ -318,7 +338,8 @@ column : (c : InLoop3) → c .before .loop3 .q < 64
 column c = lt-of-lt-of-le (c .loop3-test .taken) ((start-3 c) .pre .0 .1)
 
 -- the rows with the x bit
-loop4-holds : tie.Need-loop4-holds Inv-loop μ-loop Inv-loop4 μ-loop4 Inv-loop5 μ-loop5 Inv-loop3 μ-loop3 Inv-loop6 μ-loop6
+loop4-holds : tie.Need-loop4-holds Inv-loop μ-loop Inv-loop4 μ-loop4 Inv-loop5 μ-loop5 Inv-loop3 μ-loop3 Inv-loop6
+    μ-loop6
     Inv-loop2 μ-loop2
 loop4-holds c =
     let I = c .before .before in
@@ -326,7 +347,8 @@ loop4-holds c =
     let L = I .before .loop3 in
     (le-refl (S .args .n), from-start (S .args .n) (λ i. bit (getD (getD (L .rows) i []) 1 0) (L .q)))
 
-mul-holders : tie.Need-mul-holders Inv-loop μ-loop Inv-loop4 μ-loop4 Inv-loop5 μ-loop5 Inv-loop3 μ-loop3 Inv-loop6 μ-loop6
+mul-holders : tie.Need-mul-holders Inv-loop μ-loop Inv-loop4 μ-loop4 Inv-loop5 μ-loop5 Inv-loop3 μ-loop3 Inv-loop6
+    μ-loop6
     Inv-loop2 μ-loop2
 mul-holders c =
     let I = c .before in
@@ -335,7 +357,8 @@ mul-holders c =
     let S = (start-3 C) in
     omega (arith, from-small (S .args .n) _ (L .holders) (L .j) (L .inv .1) (I .loop4-test .taken) (S .pre .0 .1))
 
-add-holders : tie.Need-add-holders Inv-loop μ-loop Inv-loop4 μ-loop4 Inv-loop5 μ-loop5 Inv-loop3 μ-loop3 Inv-loop6 μ-loop6
+add-holders : tie.Need-add-holders Inv-loop μ-loop Inv-loop4 μ-loop4 Inv-loop5 μ-loop5 Inv-loop3 μ-loop3 Inv-loop6
+    μ-loop6
     Inv-loop2 μ-loop2
 add-holders c =
     let I = c .before in
@@ -348,7 +371,8 @@ add-holders c =
       mask-lt (getD (getD (C .before .loop3 .rows) (L .j - 1) []) 1 0 / 2 ^ C .before .loop3 .q) 1,
     )
 
-loop4-again : tie.Need-loop4-again Inv-loop μ-loop Inv-loop4 μ-loop4 Inv-loop5 μ-loop5 Inv-loop3 μ-loop3 Inv-loop6 μ-loop6
+loop4-again : tie.Need-loop4-again Inv-loop μ-loop Inv-loop4 μ-loop4 Inv-loop5 μ-loop5 Inv-loop3 μ-loop3 Inv-loop6
+    μ-loop6
     Inv-loop2 μ-loop2
 loop4-again c =
     let I = c .before in
@@ -357,7 +381,8 @@ loop4-again c =
     let S = (start-3 C) in
     let q = C .before .loop3 .q in (
       omega arith,
-      from-step (S .args .n) (λ i. bit (getD (getD (C .before .loop3 .rows) i []) 1 0) q) (L .holders) (L .j) (L .inv .1)
+      from-step (S .args .n) (λ i. bit (getD (getD (C .before .loop3 .rows) i []) 1 0) q) (L .holders) (L .j)
+          (L .inv .1)
           (I .loop4-test .taken) _ (low-bit _ q),
     )
 
@@ -393,7 +418,8 @@ mul-lender : tie.Need-mul-lender Inv-loop μ-loop Inv-loop4 μ-loop4 Inv-loop5 �
     Inv-loop2 μ-loop2
 mul-lender c = omega (arith, lender c)
 
-array-copy-out-lender : tie.Need-array-copy-out-lender Inv-loop μ-loop Inv-loop4 μ-loop4 Inv-loop5 μ-loop5 Inv-loop3 μ-loop3
+array-copy-out-lender : tie.Need-array-copy-out-lender Inv-loop μ-loop Inv-loop4 μ-loop4 Inv-loop5 μ-loop5 Inv-loop3
+    μ-loop3
     Inv-loop6 μ-loop6 Inv-loop2 μ-loop2
 array-copy-out-lender c = omega (arith, lender c)
 
@@ -401,7 +427,8 @@ has-requires-3 : tie.Need-has-requires-3 Inv-loop μ-loop Inv-loop4 μ-loop4 Inv
     μ-loop6 Inv-loop2 μ-loop2
 has-requires-3 c κs = lender (c .before .before .before .before)
 
-lacks : (c : Then3) → bit (c .before .before .before .before .loop4 .holders) ((turn (c .before .before)) .before .loop3 .q) ≡
+lacks : (c : Then3) → bit (c .before .before .before .before .loop4 .holders)
+    ((turn (c .before .before)) .before .loop3 .q) ≡
     false
 lacks c = sym (c .before .has2 .ensures) ∙ not-true _ (c .if3 .taken)
 
@@ -453,7 +480,8 @@ lent-row c j =
     refl (λ k. c .flip-where2 .ensures k
     ∙ ap (λ v. bit (L .signs) k ⊕ (eqb k (L .q) && not (Bool·beq (H .has3 .result) v))) (O .odd .ensures)) j
     ∙ lent-now (rows-in C) (L .q) (M .smallest .result) (M .before .before .before .before .before .loop4 .holders)
-    (ready (M .before .before .before) (M .smallest .result) (M .smallest .ensures .0)) (lacks (M .before)) (2 ^ (L .q)) refl
+    (ready (M .before .before .before) (M .smallest .result) (M .smallest .ensures .0)) (lacks (M .before)) (2 ^ (L .q))
+    refl
     j
     ∙ ap (λ v. shear 64 (rows-in C) v (lend (rows-in C) (L .q)) j) (M .smallest .ensures .0)
 
@@ -516,7 +544,8 @@ lent c j =
     (ready D _ refl) (sym (c .before .has2 .ensures) ∙ not-false _ (w .0 .left)) j)
     (c .if3 .came)
 
-not-named : (c : AfterPutBit) → bit (c .put-bit .result) ((turn (c .before .before .before .before)) .before .loop3 .q) ≡
+not-named : (c : AfterPutBit) → bit (c .put-bit .result) ((turn (c .before .before .before .before)) .before .loop3 .q)
+    ≡
     false
 not-named c =
     let J = c .before .before in
@@ -536,7 +565,8 @@ same-sign c =
     ∙ bits 2 (λ u v. u ⊕ (v && false)) (λ u v. u) tt (bit (P .before .before .if3 .signs) (column-laid c))
     (c .before .before .has4 .result))
 
-lent-laid : (c : AfterRowKnown) (j : ℕ) → relative (signs-before c) (c .before .before .before .before .before .if3 .rows) j
+lent-laid : (c : AfterRowKnown) (j : ℕ) → relative (signs-before c)
+    (c .before .before .before .before .before .if3 .rows) j
     ≡ (lent-in (c .before .before .before .before .before .before .before)) j
 lent-laid c j =
     let P = c .before .before .before in
@@ -555,7 +585,8 @@ commutes c =
     let J = P .before .before in
     let D = J .before .before in
     let C = (turn D) in
-    cleared-commutes (rows-in C) (C .before .loop3 .q) (trailingZeros 64 (free-in D)) (D .before .before .loop4 .holders)
+    cleared-commutes (rows-in C) (C .before .loop3 .q) (trailingZeros 64 (free-in D))
+    (D .before .before .loop4 .holders)
     (ready D _ refl) _ (lent-laid c) (P .put-bit .result) (P .put-bit .ensures)
     (far-row (C .before .loop3 .rows) (bit (C .before .loop3 .signs)) (C .before .loop3 .q) (C .before .loop3 .inv .1))
 
@@ -569,17 +600,20 @@ named-far c t l =
     ∙ put-other (bit (D .before .before .loop4 .holders)) (C .before .loop3 .q) false t
     (λ p. lt-irrefl 64 (omega (arith, column C, l, p)))
     ∙ ready D _ refl .holds t
-    ∙ far-row (C .before .loop3 .rows) (bit (C .before .loop3 .signs)) (C .before .loop3 .q) (C .before .loop3 .inv .1) t l
+    ∙ far-row (C .before .loop3 .rows) (bit (C .before .loop3 .signs)) (C .before .loop3 .q) (C .before .loop3 .inv .1)
+    t l
 
 -- ---- row q multiplied into the rows named
-loop5-holds : tie.Need-loop5-holds Inv-loop μ-loop Inv-loop4 μ-loop4 Inv-loop5 μ-loop5 Inv-loop3 μ-loop3 Inv-loop6 μ-loop6
+loop5-holds : tie.Need-loop5-holds Inv-loop μ-loop Inv-loop4 μ-loop4 Inv-loop5 μ-loop5 Inv-loop3 μ-loop3 Inv-loop6
+    μ-loop6
     Inv-loop2 μ-loop2
 loop5-holds c =
     let P = c .before .before .before in
     let J = P .before .before in
     shear-start (J .if3 .rows) (signs-before c) (column-laid c) (P .put-bit .result) (long J)
 
-next : (c : AfterSmallest2) → (c .smallest2 .result < 64) × (bit (c .before .before .loop5 .rest) (c .smallest2 .result) ≡
+next : (c : AfterSmallest2) → (c .smallest2 .result < 64) × (bit (c .before .before .loop5 .rest) (c .smallest2 .result)
+    ≡
     true)
 next c =
     let L = c .before .before .loop5 in
@@ -594,11 +628,13 @@ mul-row-4 : tie.Need-mul-row-4 Inv-loop μ-loop Inv-loop4 μ-loop4 Inv-loop5 μ-
     Inv-loop2 μ-loop2
 mul-row-4 c = omega (arith, next c .0)
 
-array-copy-out-row-4 : tie.Need-array-copy-out-row-4 Inv-loop μ-loop Inv-loop4 μ-loop4 Inv-loop5 μ-loop5 Inv-loop3 μ-loop3
+array-copy-out-row-4 : tie.Need-array-copy-out-row-4 Inv-loop μ-loop Inv-loop4 μ-loop4 Inv-loop5 μ-loop5 Inv-loop3
+    μ-loop3
     Inv-loop6 μ-loop6 Inv-loop2 μ-loop2
 array-copy-out-row-4 c = omega (arith, next c .0)
 
-minus-word-requires-2 : tie.Need-minus-word-requires-2 Inv-loop μ-loop Inv-loop4 μ-loop4 Inv-loop5 μ-loop5 Inv-loop3 μ-loop3
+minus-word-requires-2 : tie.Need-minus-word-requires-2 Inv-loop μ-loop Inv-loop4 μ-loop4 Inv-loop5 μ-loop5 Inv-loop3
+    μ-loop3
     Inv-loop6 μ-loop6 Inv-loop2 μ-loop2
 minus-word-requires-2 c κs =
     let N = c .before in
@@ -607,7 +643,8 @@ minus-word-requires-2 c κs =
     let P = K .before .before .before in
     let J = P .before .before in
     next-commutes (J .if3 .rows) (signs-before K) (column-laid K) (P .put-bit .result) (L .rows)
-    (withoutSign (L .signs) (bit (signs-laid K) (column-laid K)) (L .rest)) (L .rest) (N .smallest2 .result) (L .inv) (next
+    (withoutSign (L .signs) (bit (signs-laid K) (column-laid K)) (L .rest)) (L .rest) (N .smallest2 .result) (L .inv)
+    (next
     N .1) (next N .0)
     (commutes K)
 
@@ -615,15 +652,18 @@ mul-rows-2 : tie.Need-mul-rows-2 Inv-loop μ-loop Inv-loop4 μ-loop4 Inv-loop5 �
     Inv-loop2 μ-loop2
 mul-rows-2 c = omega (arith, next (c .before .before) .0)
 
-array-set-from-rows-2 : tie.Need-array-set-from-rows-2 Inv-loop μ-loop Inv-loop4 μ-loop4 Inv-loop5 μ-loop5 Inv-loop3 μ-loop3
+array-set-from-rows-2 : tie.Need-array-set-from-rows-2 Inv-loop μ-loop Inv-loop4 μ-loop4 Inv-loop5 μ-loop5 Inv-loop3
+    μ-loop3
     Inv-loop6 μ-loop6 Inv-loop2 μ-loop2
 array-set-from-rows-2 c = omega (arith, next (c .before .before) .0)
 
-flip-odd-requires : tie.Need-flip-odd-requires Inv-loop μ-loop Inv-loop4 μ-loop4 Inv-loop5 μ-loop5 Inv-loop3 μ-loop3 Inv-loop6
+flip-odd-requires : tie.Need-flip-odd-requires Inv-loop μ-loop Inv-loop4 μ-loop4 Inv-loop5 μ-loop5 Inv-loop3 μ-loop3
+    Inv-loop6
     μ-loop6 Inv-loop2 μ-loop2
 flip-odd-requires c κs = next (c .before .before) .0
 
-without-smallest-requires : tie.Need-without-smallest-requires Inv-loop μ-loop Inv-loop4 μ-loop4 Inv-loop5 μ-loop5 Inv-loop3
+without-smallest-requires : tie.Need-without-smallest-requires Inv-loop μ-loop Inv-loop4 μ-loop4 Inv-loop5 μ-loop5
+    Inv-loop3
     μ-loop3 Inv-loop6 μ-loop6 Inv-loop2 μ-loop2
 without-smallest-requires c κs = c .before .before .before .before .loop5-test .taken
 
@@ -640,9 +680,11 @@ fewer : (c : AfterWithoutSmallest) → c .without-smallest .result
     (c .before .before .before .before .smallest2 .result))
 fewer c =
     let N = c .before .before .before .before in
-    c .without-smallest .ensures ∙ ap (λ k. bitXor (N .before .before .loop5 .rest) (2 ^ k)) (sym (N .smallest2 .ensures .0))
+    c .without-smallest .ensures ∙ ap (λ k. bitXor (N .before .before .loop5 .rest) (2 ^ k))
+    (sym (N .smallest2 .ensures .0))
 
-loop5-again : tie.Need-loop5-again Inv-loop μ-loop Inv-loop4 μ-loop4 Inv-loop5 μ-loop5 Inv-loop3 μ-loop3 Inv-loop6 μ-loop6
+loop5-again : tie.Need-loop5-again Inv-loop μ-loop Inv-loop4 μ-loop4 Inv-loop5 μ-loop5 Inv-loop3 μ-loop3 Inv-loop6
+    μ-loop6
     Inv-loop2 μ-loop2
 loop5-again c =
     let N = c .before .before .before .before in
@@ -652,7 +694,8 @@ loop5-again c =
     let J = P .before .before in
     let W = c .before .before in
     shear-step (J .if3 .rows) (signs-before K) (column-laid K) (P .put-bit .result) (L .rows)
-    (withoutSign (L .signs) (bit (signs-laid K) (column-laid K)) (L .rest)) (L .rest) (N .smallest2 .result) (L .inv) (next
+    (withoutSign (L .signs) (bit (signs-laid K) (column-laid K)) (L .rest)) (L .rest) (N .smallest2 .result) (L .inv)
+    (next
     N .1) (next N .0)
     (commutes K) _
     (withoutSign (c .before .flip-odd .result) (bit (signs-laid K) (column-laid K)) (c .without-smallest .result)) _
@@ -665,7 +708,8 @@ loop5-again c =
 -- column q has its pivot
 pivot-done : (c : AfterLoop5) (j : ℕ) → relative (bit (c .before .loop5 .signs)) (c .before .loop5 .rows) j
     ≡ pivotOn 64 (rows-in (turn (c .before .before .before .before .before .before .before .before .before))) ((turn
-    (c .before .before .before .before .before .before .before .before .before)) .before .loop3 .q) (trailingZeros 64 (free-in
+    (c .before .before .before .before .before .before .before .before .before)) .before .loop3 .q)
+    (trailingZeros 64 (free-in
     (c .before .before .before .before .before .before .before .before .before))) j
 pivot-done c j =
     let L = c .before .loop5 in
@@ -674,7 +718,8 @@ pivot-done c j =
     let J = P .before .before in
     let D = J .before .before in
     let C = (turn D) in
-    ap (λ b. relativeRow b (getD (L .rows) j [])) (sym (sign-end (L .signs) (L .rest) (bit (signs-laid K) (column-laid K))
+    ap (λ b. relativeRow b (getD (L .rows) j [])) (sym (sign-end (L .signs) (L .rest)
+    (bit (signs-laid K) (column-laid K))
     (c .loop5-test .left) j))
     ∙ shear-end (J .if3 .rows) (signs-before K) (column-laid K) (P .put-bit .result) (L .rows)
     (withoutSign (L .signs) (bit (signs-laid K) (column-laid K)) (L .rest)) (L .rest) (L .inv)
@@ -683,7 +728,8 @@ pivot-done c j =
     (ready D _ refl) _ (lent-laid K) (P .put-bit .result) (P .put-bit .ensures) j
 
 -- ---- the next column
-loop3-again : tie.Need-loop3-again Inv-loop μ-loop Inv-loop4 μ-loop4 Inv-loop5 μ-loop5 Inv-loop3 μ-loop3 Inv-loop6 μ-loop6
+loop3-again : tie.Need-loop3-again Inv-loop μ-loop Inv-loop4 μ-loop4 Inv-loop5 μ-loop5 Inv-loop3 μ-loop3 Inv-loop6
+    μ-loop6
     Inv-loop2 μ-loop2
 loop3-again c =
     let C = c .before .before in
@@ -723,7 +769,11 @@ loop3-again c =
                             before =
                                 record {
                                   before = record {
-                                    before = record { before = record { before = c .before; if1 = w .0 }; loop4 = w .1 };
+                                    before = record {
+                                      before = record { before = c .before; if1 = w .0 };
+                                      loop4 =
+                                          w .1;
+                                    };
                                     loop4-test = w .2;
                                   };
                                   if2 = w .3;
@@ -749,7 +799,8 @@ loop3-again c =
           (λ j. ap (λ v. bit v j) (w .16) ∙ w .13 .ensures j) _ _ (L .inv .2))
           (⊎-elim
           (λ w. same-state (w .4) (w .6) (w .5)
-          (column-skipped (S .args .n) (L .q) (S .pre .0 .1) (C .loop3-test .taken) (rows-in C) (loaded3 C) (w .1 .holders)
+          (column-skipped (S .args .n) (L .q) (S .pre .0 .1) (C .loop3-test .taken) (rows-in C) (loaded3 C)
+          (w .1 .holders)
           (L .pivots) _ (holders (record {
             before = record {
               before = record { before = c .before; if1 = w .0 };
@@ -772,7 +823,8 @@ passed c =
     let done : L .q ≡ (start-2 (c .before .before .before)) .args .n = omega (arith, L .inv .0, c .loop3-test .left) in
     eliminated-at done (L .inv .2)
 
-loop6-holds : tie.Need-loop6-holds Inv-loop μ-loop Inv-loop4 μ-loop4 Inv-loop5 μ-loop5 Inv-loop3 μ-loop3 Inv-loop6 μ-loop6
+loop6-holds : tie.Need-loop6-holds Inv-loop μ-loop Inv-loop4 μ-loop4 Inv-loop5 μ-loop5 Inv-loop3 μ-loop3 Inv-loop6
+    μ-loop6
     Inv-loop2 μ-loop2
 loop6-holds c =
     let A = c .before .before in
@@ -790,7 +842,8 @@ few c =
     (L .hadamards)
     (L .round) (L .inv .0) (c .if4 .taken) _ (c .before .before .loop3 .pivots) (passed (c .before))
 
-loop6-again : tie.Need-loop6-again Inv-loop μ-loop Inv-loop4 μ-loop4 Inv-loop5 μ-loop5 Inv-loop3 μ-loop3 Inv-loop6 μ-loop6
+loop6-again : tie.Need-loop6-again Inv-loop μ-loop Inv-loop4 μ-loop4 Inv-loop5 μ-loop5 Inv-loop3 μ-loop3 Inv-loop6
+    μ-loop6
     Inv-loop2 μ-loop2
 loop6-again c =
     let I = c .before .before .before in
@@ -798,11 +851,13 @@ loop6-again c =
     let F = I .before .before in
     let A = F .before .before in
     let S = (start-2 (A .before .before)) in
-    rotate-step (A .loop3 .rows) (A .loop3 .signs) (S .args .n) _ (L .rows) (L .signs) (L .i) (L .inv) (I .loop6-test .taken)
+    rotate-step (A .loop3 .rows) (A .loop3 .signs) (S .args .n) _ (L .rows) (L .signs) (L .i) (L .inv)
+    (I .loop6-test .taken)
     (S .pre .0 .1) (few F) _ _ _ (c .before .odd2 .ensures) refl (c .flip-where3 .ensures)
 
 -- ---- the next round
-loop2-again : tie.Need-loop2-again Inv-loop μ-loop Inv-loop4 μ-loop4 Inv-loop5 μ-loop5 Inv-loop3 μ-loop3 Inv-loop6 μ-loop6
+loop2-again : tie.Need-loop2-again Inv-loop μ-loop Inv-loop4 μ-loop4 Inv-loop5 μ-loop5 Inv-loop3 μ-loop3 Inv-loop6
+    μ-loop6
     Inv-loop2 μ-loop2
 loop2-again c =
     let A = c .before .before .before .before in
@@ -816,21 +871,25 @@ loop2-again c =
           (first-round (S .args .n) (S .pre .0 .1) (K .before .mask .result) (K .before .mask .ensures)
           (relative (bit (K .loop .signs)) (S .args .t1)) (loaded A) (relative (bit (L .signs)) (L .rows)) (L .pivots)
           (L .hadamards)
-          (L .round) (L .inv .0) (w .0 .taken) (relative (bit (P .signs)) (P .rows)) (P .pivots) (passed (c .before)) _ refl
+          (L .round) (L .inv .0) (w .0 .taken) (relative (bit (P .signs)) (P .rows)) (P .pivots) (passed (c .before)) _
+          refl
           (relative (bit (c .if4 .signs)) (c .if4 .rows))
           (λ j. ap₂ (λ m v. relative (bit m) v j) (w .3) (w .4)
           ∙ rotate-end (P .rows) (P .signs) (S .args .n) _ (w .1 .rows) (w .1 .signs) (w .1 .i) (w .1 .inv) (w .2 .left)
-          (eliminated-loaded (S .args .n) (S .pre .0 .1) (loaded2 (c .before .before .before)) (passed (c .before)) .beyond)
+          (eliminated-loaded (S .args .n) (S .pre .0 .1) (loaded2 (c .before .before .before))
+          (passed (c .before)) .beyond)
           j)))
           (λ w. subst (λ h. Stage (S .args .n) (K .before .mask .result) (relative (bit (K .loop .signs)) (S .args .t1))
           (relative (bit (c .if4 .signs)) (c .if4 .rows)) (P .pivots) h (L .round + 1)) (sym (w .3))
           (second-round (S .args .n) (S .pre .0 .1) (K .before .mask .result) (K .before .mask .ensures)
           (relative (bit (K .loop .signs)) (S .args .t1)) (loaded A) (relative (bit (L .signs)) (L .rows)) (L .pivots)
           (L .hadamards)
-          (L .round) (L .inv .0) (c .before .before .before .loop2-test .taken) (w .0 .left) (relative (bit (c .if4 .signs))
+          (L .round) (L .inv .0) (c .before .before .before .loop2-test .taken) (w .0 .left)
+          (relative (bit (c .if4 .signs))
           (c .if4 .rows))
           (P .pivots)
-          (subst (λ f. Eliminated (S .args .n) (relative (bit (L .signs)) (L .rows)) (bit (L .pivots)) f (bit (P .pivots))
+          (subst (λ f. Eliminated (S .args .n) (relative (bit (L .signs)) (L .rows)) (bit (L .pivots)) f
+          (bit (P .pivots))
           (S .args .n))
           (ap₂ (λ m v. relative (bit m) v) (sym (w .1)) (sym (w .2))) (passed (c .before)))))
           (c .if4 .came),
@@ -845,7 +904,8 @@ ended : (c : AfterLoop2) → Both ((start-2 (c .before)) .args .n) (c .before .b
 ended c = let L = c .before .loop2 in
     L .inv .0 .both (omega (arith, L .inv .0 .upto, c .loop2-test .left))
 
-returns : tie.Need-returns Inv-loop μ-loop Inv-loop4 μ-loop4 Inv-loop5 μ-loop5 Inv-loop3 μ-loop3 Inv-loop6 μ-loop6 Inv-loop2
+returns : tie.Need-returns Inv-loop μ-loop Inv-loop4 μ-loop4 Inv-loop5 μ-loop5 Inv-loop3 μ-loop3 Inv-loop6 μ-loop6
+    Inv-loop2
     μ-loop2
 returns c =
     let E = c .before in
@@ -858,7 +918,8 @@ returns c =
     (c .if5 .taken) in
     (sym (ap not (ap (dependent (S .args .n)) (sym (fun-ext (related A))) ∙ bad)), (refl, refl))
 
-write-record-requires : tie.Need-write-record-requires Inv-loop μ-loop Inv-loop4 μ-loop4 Inv-loop5 μ-loop5 Inv-loop3 μ-loop3
+write-record-requires : tie.Need-write-record-requires Inv-loop μ-loop Inv-loop4 μ-loop4 Inv-loop5 μ-loop5 Inv-loop3
+    μ-loop3
     Inv-loop6 μ-loop6 Inv-loop2 μ-loop2
 write-record-requires c κs =
     let F = c .before .before in
@@ -869,7 +930,8 @@ write-record-requires c κs =
     let L = A .loop2 in (
       (S .pre .0 .1, S .pre .0 .2, S .pre .0 .3),
       λ j _. end-within (S .args .n) (S .pre .0 .1) (K .before .mask .result) (K .before .mask .ensures)
-          (relative (bit (K .loop .signs)) (S .args .t1)) (loaded A) (L .rows) (L .signs) (L .pivots) (L .hadamards) (ended E)
+          (relative (bit (K .loop .signs)) (S .args .t1)) (loaded A) (L .rows) (L .signs) (L .pivots) (L .hadamards)
+          (ended E)
           (F .if5 .left) j,
     )
 
@@ -901,16 +963,21 @@ reduce-tableau-spec =
     tie.close
     (tie.spec Inv-loop μ-loop Inv-loop4 μ-loop4 Inv-loop5 μ-loop5 Inv-loop3 μ-loop3 Inv-loop6 μ-loop6 Inv-loop2 μ-loop2
     (λ c κs. search needs) loop-holds (λ c. search needs) (λ c. search needs) (λ c. search needs) (λ c. search needs)
-    (λ c κs. search needs) (λ c κs. search needs) (λ c. search needs) (λ c. omega arith) loop-again loop2-holds loop3-holds
+    (λ c κs. search needs) (λ c κs. search needs) (λ c. search needs) (λ c. omega arith) loop-again loop2-holds
+    loop3-holds
     (λ c κs. search needs) loop4-holds (λ c. search needs) (λ c. search needs) (λ c. search needs) mul-holders
     (λ c. search needs) (λ c. search needs) add-holders (λ c. omega arith) loop4-again (λ c κs. search needs)
     (λ c κs. search needs) mul-lender array-copy-out-lender (λ c. search needs) (λ c. search needs) (λ c. search needs)
-    (λ c. search needs) (λ c. search needs) (λ c. search needs) minus-word-requires (λ c κs. search needs) (λ c. search needs)
-    (λ c. search needs) has-requires-3 (λ c κs. search needs) (λ c. search needs) (λ c. search needs) (λ c. search needs)
+    (λ c. search needs) (λ c. search needs) (λ c. search needs) minus-word-requires (λ c κs. search needs)
+    (λ c. search needs)
+    (λ c. search needs) has-requires-3 (λ c κs. search needs) (λ c. search needs) (λ c. search needs)
+    (λ c. search needs)
     (λ c. search needs) (λ c κs. search needs) (λ c κs. search needs) (λ c κs. search needs) loop5-holds
     (λ c κs. search needs) mul-row-4 array-copy-out-row-4 (λ c. search needs) (λ c. search needs) minus-word-requires-2
-    mul-rows-2 array-set-from-rows-2 flip-odd-requires without-smallest-requires loop5-less loop5-again (λ c κs. search needs)
-    (λ c. search needs) (λ c. omega arith) loop3-again loop6-holds (λ c. search needs) (λ c. search needs) (λ c. search needs)
+    mul-rows-2 array-set-from-rows-2 flip-odd-requires without-smallest-requires loop5-less loop5-again
+    (λ c κs. search needs)
+    (λ c. search needs) (λ c. omega arith) loop3-again loop6-holds (λ c. search needs) (λ c. search needs)
+    (λ c. search needs)
     (λ c. search needs) (λ c κs. search needs) (λ c. search needs) (λ c. search needs) (λ c κs. search needs)
     (λ c. search needs) (λ c. omega arith) loop6-again (λ c. search needs) (λ c. omega arith) loop2-again returns
     write-record-requires (λ c. search needs) (λ c. search needs) returns-2)

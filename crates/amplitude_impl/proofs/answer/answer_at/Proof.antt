@@ -26,7 +26,8 @@ returns-2 c =
     let T = c .before in
     let E = T .before .before in
     let start = E .before .before .before .before in
-    value-there _ _ _ (start .pre) _ _ _ (T .before .turns .ensures) (T .turns2 .ensures) _ (E .before .supports .ensures)
+    value-there _ _ _ (start .pre) _ _ _ (T .before .turns .ensures) (T .turns2 .ensures) _
+    (E .before .supports .ensures)
     (E .if1 .left) _ (c .turned .ensures)
 
 pub answer-at-spec : {M : Type 1} → statement M

@@ -1,4 +1,5 @@
--- `line_at` meets its contract: the line of the plot at y of a record of reduced form with this smallest supported word.
+-- `line_at` meets its contract: the line of the plot at y of a record of reduced form with this smallest supported
+-- word.
 use borrow.Author.Needs.{needs}
 use Rattle.operations.proofs.UnrefusedRecords.{unrefused-codes}
 use Rattle.amplitude_impl.proofs.PlotLines.{line-there}

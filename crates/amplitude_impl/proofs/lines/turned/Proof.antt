@@ -28,7 +28,8 @@ returns-3 c = ap turned (sym (c .match .keys3))
 
 returns-4 : tie.Need-returns-4
 unfolding ofBits neg
-returns-4 c = ap turned (sym (three (c .before .args .k) (c .before .pre) (c .match .rest .0 .0 .1) (c .match .rest .0 .1) (c .match .rest .1)))
+returns-4 c = ap turned (sym (three (c .before .args .k) (c .before .pre) (c .match .rest .0 .0 .1)
+    (c .match .rest .0 .1) (c .match .rest .1)))
 
 pub turned-spec : {M : Type 1} → statement M
 turned-spec = tie.close (tie.spec returns returns-2 returns-3 returns-4)

@@ -8,7 +8,8 @@ use Rattle.amplitude_impl.proofs.turns.fits.Tie as tie
 returns : tie.Need-returns
 returns c =
     let start = c .before .before .before in
-    fits-is (start .args .code) _ _ _ (c .before .before .c-bit .ensures) (c .before .has .ensures) (c .dot-below .ensures)
+    fits-is (start .args .code) _ _ _ (c .before .before .c-bit .ensures) (c .before .has .ensures)
+    (c .dot-below .ensures)
 
 pub fits-spec : {M : Type 1} → statement M
 fits-spec = tie.close (tie.spec (λ c κs. search needs) (λ c κs. search needs) (λ c κs. search needs) returns)

@@ -24,7 +24,8 @@ returns c =
     let a = P .before .before .before .before .before .before .before .args in
     let l : LentRecord = lentRecord (a .n1) (a .neighbours1 .now) (a .codes1 .now) in
     let m : LentRecord = lentRecord (a .n2) (a .neighbours2 .now) (a .codes2 .now) in
-    refused-2 (a .limited) l m (a .choice .now) (a .list .now) (a .count .now) (sym (P .pair-count .ensures) ∙ c .if1 .taken)
+    refused-2 (a .limited) l m (a .choice .now) (a .list .now) (a .count .now)
+    (sym (P .pair-count .ensures) ∙ c .if1 .taken)
 
 returns-2 : tie.Need-returns-2
 returns-2 c =

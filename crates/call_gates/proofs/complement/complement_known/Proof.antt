@@ -23,7 +23,8 @@ asked S = complementOf (S .args .a)
 
 -- the number of its lines
 number : (E : tie.After-in-place-refusal)
-    → E .in-place-refusal .result ≡ firstFitting (usedLinesOf (lent (E .before .before .before .before .before .before)) (asked (E .before .before .before .before .before .before)))
+    → E .in-place-refusal .result ≡ firstFitting (usedLinesOf (lent (E .before .before .before .before .before .before))
+    (asked (E .before .before .before .before .before .before)))
 number E =
     let I = E .before .before .before in
     let S = I .before .before .before in

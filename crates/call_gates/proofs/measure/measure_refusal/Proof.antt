@@ -34,7 +34,8 @@ returns-2 c =
     let E = D .before in
     let S = E .before .before .before in
     let a = S .args in
-    then-14 (lent S) (a .pauli) (a .qubit) (a .outcome) (E .argument-refusal .ensures) (D .if1 .left) (c .before .contradicted .ensures)
+    then-14 (lent S) (a .pauli) (a .qubit) (a .outcome) (E .argument-refusal .ensures) (D .if1 .left)
+    (c .before .contradicted .ensures)
     (c .if2 .taken)
 
 returns-3 : tie.Need-returns-3
@@ -43,7 +44,8 @@ returns-3 c =
     let E = D .before in
     let S = E .before .before .before in
     let a = S .args in
-    then-none (lent S) (a .pauli) (a .qubit) (a .outcome) (E .argument-refusal .ensures) (D .if1 .left) (c .before .contradicted .ensures)
+    then-none (lent S) (a .pauli) (a .qubit) (a .outcome) (E .argument-refusal .ensures) (D .if1 .left)
+    (c .before .contradicted .ensures)
     (c .if2 .left)
 
 pub measure-refusal-spec : {M : Type 1} → statement M

@@ -24,7 +24,8 @@ returns-2 c =
     let E = P .before .before in
     let a = E .before .before .before .before .args in
     let l : GeneratorList = record { n = a .n; signs = a .signs .now; z = a .z .now; x = a .x .now } in
-    product-accepted l (a .chosen) (sym (E .product-refusal .ensures) ∙ P .before .if1 .left) (P .chosen-product .result) (P .chosen-product .ensures .0)
+    product-accepted l (a .chosen) (sym (E .product-refusal .ensures) ∙ P .before .if1 .left)
+    (P .chosen-product .result) (P .chosen-product .ensures .0)
     (P .chosen-product .ensures .1)
 
 pub product-spec : {M : Type 1} → statement M

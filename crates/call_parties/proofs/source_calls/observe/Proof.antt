@@ -21,7 +21,8 @@ lent S =
 -- the number of the lines before 8
 number : (E : tie.After-party-refusal) → let S = E .before .before .before .before .before .before .before in
     E .party-refusal .result ≡ firstFitting (beforeEight (S .args .word) (S .args .party) (lent S)
-    (observedSix (S .args .pauli) (S .args .bit)) (outsider (inParty (S .args .word) (S .args .party)) (S .args .n) (S .args .qubit)))
+    (observedSix (S .args .pauli) (S .args .bit)) (outsider (inParty (S .args .word) (S .args .party)) (S .args .n)
+    (S .args .qubit)))
 number E =
     let O = E .before .before .before .before in
     let S = O .before .before .before in

@@ -1,4 +1,5 @@
--- `observe_within` meets its contract: a Pauli measured with a bit by lot on the copy of the party's vertices, which are put back.
+-- `observe_within` meets its contract: a Pauli measured with a bit by lot on the copy of the party's vertices, which
+-- are put back.
 use mathlib.Core.Path.{_∙_}
 use borrow.Author.Needs.{needs}
 use Rattle.operations.specs.Steps.{Operation, measurementOf}

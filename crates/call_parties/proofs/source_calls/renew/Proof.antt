@@ -23,7 +23,8 @@ at E = E .before .before .before .before .before .before .before .before
 
 -- the number of the lines before 8
 number : (E : tie.After-party-refusal) → let S = at E in
-    E .party-refusal .result ≡ firstFitting (beforeEight (S .args .word) (S .args .party) (lent S) (not (usedCode (S .args .code)))
+    E .party-refusal .result ≡ firstFitting (beforeEight (S .args .word) (S .args .party) (lent S)
+    (not (usedCode (S .args .code)))
     (outsider (inParty (S .args .word) (S .args .party)) (S .args .n) (S .args .qubit)))
 number E =
     let N = E .before .before .before .before in
@@ -31,7 +32,8 @@ number E =
     let a = S .args in
     other-as (a .word) (a .party) (lent S) (not (usedCode (a .code)))
     (E .party-refusal .ensures
-    ∙ ap (λ s. firstFitting (beforeEight (a .word) (a .party) (lent S) s (N .before .outside .result))) (N .no-photon .ensures))
+    ∙ ap (λ s. firstFitting (beforeEight (a .word) (a .party) (lent S) s (N .before .outside .result)))
+    (N .no-photon .ensures))
     (N .before .outside .ensures)
 
 returns : tie.Need-returns
@@ -58,10 +60,12 @@ returns-2 c =
     let D = R .before .before .before .before in
     let S = at (D .before) in
     let a = S .args in
-    renew-whole (a .word) (a .party) (lent S) (a .qubit) (a .code) (number (D .before)) (D .if1 .left) (R .renew-known .ensures)
+    renew-whole (a .word) (a .party) (lent S) (a .qubit) (a .code) (number (D .before)) (D .if1 .left)
+    (R .renew-known .ensures)
 
 pub renew-spec : {M : Type 1} → statement M
 renew-spec =
     tie.close
-    (tie.spec (λ c κs. search needs) (λ c κs. search needs) (λ c κs. search needs) (λ c. search needs) (λ c. search needs)
+    (tie.spec (λ c κs. search needs) (λ c κs. search needs) (λ c κs. search needs) (λ c. search needs)
+    (λ c. search needs)
     returns renew-known-requires (λ c. search needs) (λ c. search needs) returns-2)

@@ -10,7 +10,8 @@ returns c =
     let H = c .before in
     let U = H .before in
     let S = U .before .before .before .before .before .before in
-    both-number (S .args .word) (S .args .party) (usedRecord (S .args .n) (S .args .neighbours .now) (S .args .codes .now) (S .args .used)) (record {
+    both-number (S .args .word) (S .args .party) (usedRecord (S .args .n) (S .args .neighbours .now)
+    (S .args .codes .now) (S .args .used)) (record {
       heads = S .args .heads .now;
       neighbours = S .args .held-neighbours .now;
       codes = S .args .held-codes .now;

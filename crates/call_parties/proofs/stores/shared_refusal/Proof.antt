@@ -52,7 +52,8 @@ returns-3 c =
     shared-last (S .args .word) (S .args .party) (lent S) (store S) (B .before .if1 .left) _ _ _
     (B .both-refusal .ensures) (G .party-number .ensures) (E .earlier .ensures) (X .before .if2 .left) _
     (sym (c .if3 .taken) ∙ X .crosses .ensures
-    ∙ crosses-reads (usedRecord 64 (S .args .neighbours .now) [] 0) (lent S) (sym (B .before .if1 .left)) refl (S .args .word))
+    ∙ crosses-reads (usedRecord 64 (S .args .neighbours .now) [] 0) (lent S) (sym (B .before .if1 .left)) refl
+    (S .args .word))
 
 returns-4 : tie.Need-returns-4
 returns-4 c =
@@ -64,7 +65,8 @@ returns-4 c =
     shared-last (S .args .word) (S .args .party) (lent S) (store S) (B .before .if1 .left) _ _ _
     (B .both-refusal .ensures) (G .party-number .ensures) (E .earlier .ensures) (X .before .if2 .left) _
     (sym (c .if3 .left) ∙ X .crosses .ensures
-    ∙ crosses-reads (usedRecord 64 (S .args .neighbours .now) [] 0) (lent S) (sym (B .before .if1 .left)) refl (S .args .word))
+    ∙ crosses-reads (usedRecord 64 (S .args .neighbours .now) [] 0) (lent S) (sym (B .before .if1 .left)) refl
+    (S .args .word))
 
 pub shared-refusal-spec : {M : Type 1} → statement M
 shared-refusal-spec =

@@ -45,4 +45,5 @@ returns-2 c =
     )
 
 pub amplitude-spec : {M : Type 1} → statement M
-amplitude-spec = tie.close (tie.spec (λ c κs. search needs) returns plot-at-requires bits-requires bits-requires-2 bits-requires-3 returns-2)
+amplitude-spec = tie.close (tie.spec (λ c κs. search needs) returns plot-at-requires bits-requires bits-requires-2
+    bits-requires-3 returns-2)

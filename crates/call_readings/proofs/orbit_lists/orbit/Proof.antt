@@ -20,7 +20,8 @@ graph-number-requires : tie.Need-graph-number-requires
 graph-number-requires c κs =
     let E = c .before in
     let a = E .before .before .before .before .args in
-    let A = accepted-graph (a .n) (a .neighbours .now) (a .list .now) (sym (E .orbit-refusal .ensures) ∙ c .if1 .left) in
+    let A = accepted-graph (a .n) (a .neighbours .now) (a .list .now) (sym (E .orbit-refusal .ensures) ∙ c .if1 .left)
+    in
     (A .positive, A .few, A .words)
 
 write-orbit-requires : tie.Need-write-orbit-requires
@@ -29,8 +30,12 @@ write-orbit-requires c κs =
     let E = G .before .before in
     let a = E .before .before .before .before .args in
     let A = accepted-graph (a .n) (a .neighbours .now) (a .list .now)
-    (sym (E .orbit-refusal .ensures) ∙ G .before .if1 .left) in
-    (A .positive, A .few, subst (λ g. g < graphCount (a .n)) (sym (G .graph-number .ensures)) (number-lt (a .n) _), A .places)
+    (sym (E .orbit-refusal .ensures) ∙ G .before .if1 .left) in (
+      A .positive,
+      A .few,
+      subst (λ g. g < graphCount (a .n)) (sym (G .graph-number .ensures)) (number-lt (a .n) _),
+      A .places,
+    )
 
 returns-2 : tie.Need-returns-2
 returns-2 c =

@@ -13,7 +13,8 @@ leaves-reduced-requires c κs = search needs
 returns : tie.Need-returns
 returns c =
     let a = c .before .before .args in
-    c .leaves-reduced .ensures ∙ sym (ap (λ b. cond b (leavesReduced (a .op)) (a .waiting)) (eq-eqb (a .refusal) 0 (c .before .if1 .taken)))
+    c .leaves-reduced .ensures ∙ sym (ap (λ b. cond b (leavesReduced (a .op)) (a .waiting))
+    (eq-eqb (a .refusal) 0 (c .before .if1 .taken)))
 
 returns-2 : tie.Need-returns-2
 returns-2 c =

@@ -29,8 +29,10 @@ next-waiting-requires c κs = search needs
 
 pack-requires : tie.Need-pack-requires
 pack-requires c κs =
-    let S = c .before .before .before .before .before .before .before .before .before .before .before .before .before .before in
-    small-answer (meant (c .before .before .before .before .before .before .before .before .before .marked-before .result) (lent S)) (S .args .s) _ (c .before .before .before .before .before .run-step .ensures .run .answer)
+    let S = c .before .before .before .before .before .before .before .before .before .before .before .before .before
+    .before in
+    small-answer (meant (c .before .before .before .before .before .before .before .before .before .marked-before
+    .result) (lent S)) (S .args .s) _ (c .before .before .before .before .before .run-step .ensures .run .answer)
 
 slice-write-answers : tie.Need-slice-write-answers
 slice-write-answers c = search needs
@@ -46,8 +48,11 @@ same-length-3 c = search needs
 
 returns : tie.Need-returns
 returns c =
-    let S = c .before .before .before .before .before .before .before .before .before .before .before .before .before .before .before in
-    turned _ (lent S) (S .args .s) _ _ _ _ _ _ (S .pre .0) _ _ (c .before .before .before .before .before .before .before .before .before .before .marked-before .ensures) (c .before .next-waiting .ensures)
+    let S = c .before .before .before .before .before .before .before .before .before .before .before .before .before
+    .before .before in
+    turned _ (lent S) (S .args .s) _ _ _ _ _ _ (S .pre .0) _ _
+    (c .before .before .before .before .before .before .before .before .before .before .marked-before .ensures)
+    (c .before .next-waiting .ensures)
     (c .pack .ensures) (c .before .before .before .before .before .before .run-step .ensures)
 
 pub turn-spec : {M : Type 1} → statement M

@@ -68,14 +68,16 @@ loop-again c =
     let a = S .args in
     let l = A .loop in
     let m = L .block-length .ensures in (
-      run-block-more (lent S) (stepsIn (a .ops .now) (a .a .now) (a .b .now) (a .value .now)) (a .count) (a .answers .now)
+      run-block-more (lent S) (stepsIn (a .ops .now) (a .a .now) (a .b .now) (a .value .now)) (a .count)
+          (a .answers .now)
           (l .k) (L .block-length .result) (omega (arith, m .1, I .loop-test .taken))
           (omega (arith, S .pre .0, steps-long (a .ops .now) (a .a .now) (a .b .now) (a .value .now))) (S .pre .1)
           (B .block-at .result) (B .block-at .ensures) _ _ _ _ (l .inv .0) _ _ _ _ (R .run-block .ensures),
       R .run-block .kept .1 .0 ∙ l .inv .1,
       R .run-block .kept .1 .1 .0 ∙ l .inv .2,
       R .run-block .kept .1 .1 .1 .1 .1 .1 .1 .0 ∙ l .inv .3,
-      block-ready (usedRecord (a .n) (l .neighbours) (l .codes) (l .word)) (l .k) (L .block-length .result) (B .block-at .result) (omega (arith, m .2, B .block-at .ok .1 .0 .1))
+      block-ready (usedRecord (a .n) (l .neighbours) (l .codes) (l .word)) (l .k) (L .block-length .result)
+          (B .block-at .result) (omega (arith, m .2, B .block-at .ok .1 .0 .1))
           _ _ _ _ _ (R .run-block .ensures) (l .inv .4),
     )
 
@@ -90,7 +92,8 @@ returns : tie.Need-returns Inv-loop μ-loop
 returns c =
     let T = c .before .before .before .before .before .before .before .before in
     let l = T .before .loop in
-    let S = c .before .before .before .before .before .before .before .before .before .before .before .before .before .before .before .before .before in
+    let S = c .before .before .before .before .before .before .before .before .before .before .before .before .before
+    .before .before .before .before in
     let a = S .args in
     run-all (lent S) (stepsIn (a .ops .now) (a .a .now) (a .b .now) (a .value .now)) (a .count) (a .answers .now)
     (l .k) (l .neighbours) (l .codes) (l .word) (l .answers) (T .loop-test .left)
@@ -101,5 +104,6 @@ pub run-numbers-spec : {M : Type 1} → statement M
 run-numbers-spec =
     tie.close
     (tie.spec Inv-loop μ-loop loop-holds (λ c. search needs) (λ c κs. search needs)
-    block-at-requires run-block-requires (λ c. search needs) loop-less loop-again settle-last-requires (λ c. search needs)
+    block-at-requires run-block-requires (λ c. search needs) loop-less loop-again settle-last-requires
+    (λ c. search needs)
     (λ c. search needs) (λ c. search needs) returns)

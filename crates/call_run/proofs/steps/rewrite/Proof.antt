@@ -15,7 +15,11 @@ enum-told : tie.Need-enum-told
 enum-told c = search needs
 
 cast-gate-waiting : tie.Need-cast-gate-waiting
-cast-gate-waiting c = omega (arith, c .before .before .before .before .before .before .pre .0 .code (c .before .before .enum-told .given .1))
+cast-gate-waiting c = omega (
+  arith,
+  c .before .before .before .before .before .before .pre .0 .code
+      (c .before .before .enum-told .given .1),
+)
 
 gate-waiting-requires : tie.Need-gate-waiting-requires
 gate-waiting-requires c κs = search needs
@@ -56,7 +60,8 @@ same-length-2 c = search needs
 returns : tie.Need-returns
 returns c =
     let S = c .before .before .before .before .before .before .before .before .before in
-    gate-waited (S .args .waiting) (lent S) (S .pre .1) (S .args .a) (S .args .b) (S .args .value) (c .before .before .before .before .before .enum-told .given .1) _ _ _
+    gate-waited (S .args .waiting) (lent S) (S .pre .1) (S .args .a) (S .args .b) (S .args .value)
+    (c .before .before .before .before .before .enum-told .given .1) _ _ _
     (c .before .before .gate-waiting .ensures)
 
 same-length-3 : tie.Need-same-length-3
@@ -68,7 +73,8 @@ same-length-4 c = search needs
 returns-2 : tie.Need-returns-2
 returns-2 c =
     let S = c .before .before .before .before .before .before .before .before .before .before .before in
-    cz-waited (S .args .waiting) (lent S) (S .pre .1) (S .args .a) (S .args .b) (S .args .value) (c .before .before .before .before .before .before .before .enum-told2 .given .1) _ _ _
+    cz-waited (S .args .waiting) (lent S) (S .pre .1) (S .args .a) (S .args .b) (S .args .value)
+    (c .before .before .before .before .before .before .before .enum-told2 .given .1) _ _ _
     (c .before .before .before .before .cz-waiting .ensures)
 
 same-length-5 : tie.Need-same-length-5
@@ -80,7 +86,8 @@ same-length-6 c = search needs
 returns-3 : tie.Need-returns-3
 returns-3 c =
     let S = c .before .before .before .before .before .before .before .before .before .before .before in
-    complement-waited (S .args .waiting) (lent S) (S .pre .1) (S .args .a) (S .args .b) (S .args .value) (c .before .before .before .before .before .before .before .enum-told3 .given .1) _ _ _
+    complement-waited (S .args .waiting) (lent S) (S .pre .1) (S .args .a) (S .args .b) (S .args .value)
+    (c .before .before .before .before .before .before .before .enum-told3 .given .1) _ _ _
     (c .before .before .before .before .complement-waiting .ensures)
 
 same-length-7 : tie.Need-same-length-7
@@ -92,7 +99,8 @@ same-length-8 c = search needs
 returns-4 : tie.Need-returns-4
 returns-4 c =
     let S = c .before .before .before .before .before .before .before .before .before .before .before in
-    pivot-waited (S .args .waiting) (lent S) (S .pre .1) (S .args .a) (S .args .b) (S .args .value) (c .before .before .before .before .before .before .before .enum-told4 .given .1) _ _ _
+    pivot-waited (S .args .waiting) (lent S) (S .pre .1) (S .args .a) (S .args .b) (S .args .value)
+    (c .before .before .before .before .before .before .before .enum-told4 .given .1) _ _ _
     (c .before .before .before .before .pivot-waiting .ensures)
 
 returns-5 : tie.Need-returns-5

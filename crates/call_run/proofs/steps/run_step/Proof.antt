@@ -28,7 +28,9 @@ wrong-value-requires c κs = search needs
 returns : tie.Need-returns
 returns c =
     let S = c .before .before .before .before .before .before in
-    wrong-waited (S .args .waiting) (lent S) (S .pre) (S .args .s) (wrong-by (lent S) (S .args .s) (c .before .before .unused-set .ensures) (c .before .wrong-value .ensures) (c .if1 .taken))
+    wrong-waited (S .args .waiting) (lent S) (S .pre) (S .args .s)
+    (wrong-by (lent S) (S .args .s) (c .before .before .unused-set .ensures) (c .before .wrong-value .ensures)
+    (c .if1 .taken))
 
 cast-a : tie.Need-cast-a
 cast-a c = search needs
@@ -40,7 +42,8 @@ begun X = X .before .before .before .before .before .before .before
 right : (X : tie.After-struct-known) → wrong (lent (begun X)) (begun X .args .s) ≡ false
 right X =
     let S = begun X in
-    wrong-by (lent S) (S .args .s) (X .before .before .before .unused-set .ensures) (X .before .before .wrong-value .ensures) (X .before .if1 .left)
+    wrong-by (lent S) (S .args .s) (X .before .before .before .unused-set .ensures)
+    (X .before .before .wrong-value .ensures) (X .before .if1 .left)
 
 enum-told : tie.Need-enum-told
 enum-told c = search needs
@@ -61,7 +64,8 @@ returns-2 : tie.Need-returns-2
 returns-2 c =
     let X = c .before .before .before .before .before .before .before .before .before .before in
     let S = begun X in
-    measured-waited (S .args .waiting) (lent S) (S .pre) (S .args .s) (right X) (c .before .before .before .before .before .before .before .before .enum-told .given .1) _ _ _ _
+    measured-waited (S .args .waiting) (lent S) (S .pre) (S .args .s) (right X)
+    (c .before .before .before .before .before .before .before .before .enum-told .given .1) _ _ _ _
     (c .before .before .before .before .measure-value .ensures)
 
 enum-told-2 : tie.Need-enum-told-2
@@ -83,7 +87,8 @@ returns-3 : tie.Need-returns-3
 returns-3 c =
     let X = c .before .before .before .before .before .before .before .before .before .before .before in
     let S = begun X in
-    observed-waited (S .args .waiting) (lent S) (S .pre) (S .args .s) (right X) (c .before .before .before .before .before .before .before .before .enum-told2 .given .1) _ _ _ _
+    observed-waited (S .args .waiting) (lent S) (S .pre) (S .args .s) (right X)
+    (c .before .before .before .before .before .before .before .before .enum-told2 .given .1) _ _ _ _
     (c .before .before .before .before .observe-value .ensures)
 
 enum-told-3 : tie.Need-enum-told-3
@@ -106,7 +111,8 @@ returns-4 c =
     let X = c .before .before .before .before .before .before .before .before .before .before .before .before in
     let S = begun X in
     let R = c .before .before .before .before .renew-value .ensures in
-    renewed-waited (S .args .waiting) (lent S) (S .pre) (S .args .s) (right X) (c .before .before .before .before .before .before .before .before .enum-told3 .given .1) _ _ _ _
+    renewed-waited (S .args .waiting) (lent S) (S .pre) (S .args .s) (right X)
+    (c .before .before .before .before .before .before .before .before .enum-told3 .given .1) _ _ _ _
     (R .0) (R .1)
 
 cast-rewrite : tie.Need-cast-rewrite
@@ -115,8 +121,11 @@ cast-rewrite c = search needs
 rewrite-requires : tie.Need-rewrite-requires
 rewrite-requires c κs =
     let X = c .before .before .before .before .before .before in
-    let S = begun X in
-    (rewriting (lent S) (S .args .s) (right X) (c .before .before .before .before .before .match .keys2) (c .before .before .before .before .match2 .keys2) (c .before .before .before .match3 .keys2), S .pre)
+    let S = begun X in (
+      rewriting (lent S) (S .args .s) (right X) (c .before .before .before .before .before .match .keys2)
+          (c .before .before .before .before .match2 .keys2) (c .before .before .before .match3 .keys2),
+      S .pre,
+    )
 
 same-length-7 : tie.Need-same-length-7
 same-length-7 c = search needs
@@ -128,7 +137,8 @@ returns-5 : tie.Need-returns-5
 returns-5 c =
     let X = c .before .before .before .before .before .before .before .before .before .before .before in
     let S = begun X in
-    plain-waited (S .args .waiting) (lent S) (S .pre) (S .args .s) (right X) _ _ _ (c .before .before .before .before .rewrite .ensures)
+    plain-waited (S .args .waiting) (lent S) (S .pre) (S .args .s) (right X) _ _ _
+    (c .before .before .before .before .rewrite .ensures)
 
 pub run-step-spec : {M : Type 1} → statement M
 run-step-spec =

@@ -12,7 +12,8 @@ settle-waiting-requires c κs = search needs
 
 complement-known-requires : tie.Need-complement-known-requires
 complement-known-requires c κs =
-    subst UsedUnrefused (sym (c .before .before .before .before .before .before .settle-waiting .ensures)) (c .before .before .before .before .before .before .before .before .before .before .before .pre .checked)
+    subst UsedUnrefused (sym (c .before .before .before .before .before .before .settle-waiting .ensures))
+    (c .before .before .before .before .before .before .before .before .before .before .before .pre .checked)
 
 same-length : tie.Need-same-length
 same-length c = search needs
@@ -23,9 +24,12 @@ same-length-2 c = search needs
 returns : tie.Need-returns
 returns c =
     let K = c .before .before .before .before in
-    let S = c .before .before .before .before .before .before .before .before .before .before .before .before .before .before .before .before in
-    call-as _ _ (complementOf (S .args .a)) (K .complement-known .last .1 .0) (K .complement-known .last .1 .1 .0) (K .complement-known .result)
-    (c .before .before .before .before .before .before .before .before .before .before .before .settle-waiting .ensures) (K .complement-known .ensures)
+    let S = c .before .before .before .before .before .before .before .before .before .before .before .before .before
+    .before .before .before in
+    call-as _ _ (complementOf (S .args .a)) (K .complement-known .last .1 .0) (K .complement-known .last .1 .1 .0)
+    (K .complement-known .result)
+    (c .before .before .before .before .before .before .before .before .before .before .before .settle-waiting .ensures)
+    (K .complement-known .ensures)
 
 pub complement-waiting-spec : {M : Type 1} → statement M
 complement-waiting-spec =

@@ -25,7 +25,8 @@ number : (E : tie.After-argument-number) → let S = E .before .before .before .
 number E =
     let S = E .before .before .before .before .before in
     let a = S .args in
-    numbered (meant (a .waiting) (lent S)) (S .pre .checked) false (leb (a .n) (a .a) || (leb (a .n) (a .b) || eqb (a .a) (a .b)))
+    numbered (meant (a .waiting) (lent S)) (S .pre .checked) false
+    (leb (a .n) (a .a) || (leb (a .n) (a .b) || eqb (a .a) (a .b)))
     (E .argument-number .ensures) (ap₂ _||_ (E .before .before .bit-at .ensures) (E .before .bit-at2 .ensures))
 
 bit-at-requires : tie.Need-bit-at-requires
@@ -45,8 +46,11 @@ returns c =
 cz-unsettled-requires : tie.Need-cz-unsettled-requires
 cz-unsettled-requires c κs =
     let D = c .before .before in
-    let S = c .before .before .before .before .before .before .before .before in
-    (ready-held _ (lent S) (S .pre), cz-places _ (lent S) (S .pre) (S .args .a) (S .args .b) (number (D .before)) (D .if1 .left))
+    let S = c .before .before .before .before .before .before .before .before in (
+      ready-held _ (lent S) (S .pre),
+      cz-places _ (lent S) (S .pre) (S .args .a) (S .args .b) (number (D .before))
+          (D .if1 .left),
+    )
 
 same-length : tie.Need-same-length
 same-length c = search needs

@@ -23,7 +23,8 @@ number : (E : tie.After-argument-number) → let S = E .before .before .before .
     E .argument-number .result ≡ firstFitting (usedLinesOf (meant (S .args .waiting) (lent S)) (asked S))
 number E =
     let S = E .before .before .before .before in
-    numbered (meant (S .args .waiting) (lent S)) (S .pre .checked) (leb 24 (S .args .code)) (leb (S .args .n) (S .args .qubit))
+    numbered (meant (S .args .waiting) (lent S)) (S .pre .checked) (leb 24 (S .args .code))
+    (leb (S .args .n) (S .args .qubit))
     (E .argument-number .ensures) (E .before .bit-at .ensures)
 
 bit-at-requires : tie.Need-bit-at-requires
@@ -40,8 +41,11 @@ returns c =
 gate-unsettled-requires : tie.Need-gate-unsettled-requires
 gate-unsettled-requires c κs =
     let D = c .before in
-    let S = c .before .before .before .before .before .before in
-    (ready-held _ (lent S) (S .pre), gate-place _ (lent S) (S .pre) (S .args .qubit) (S .args .code) (number (D .before)) (D .if1 .left))
+    let S = c .before .before .before .before .before .before in (
+      ready-held _ (lent S) (S .pre),
+      gate-place _ (lent S) (S .pre) (S .args .qubit) (S .args .code)
+          (number (D .before)) (D .if1 .left),
+    )
 
 same-length : tie.Need-same-length
 same-length c = search needs

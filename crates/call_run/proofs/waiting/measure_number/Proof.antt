@@ -20,11 +20,13 @@ lent S =
 -- the number of the lines of its arguments
 number : (E : tie.After-argument-number) → let S = E .before .before .before .before in
     E .argument-number .result
-    ≡ firstFitting (usedArgumentsOf (meant (S .args .waiting) (lent S)) (measurementOf (S .args .pauli) (S .args .qubit) (S .args .outcome)))
+    ≡ firstFitting (usedArgumentsOf (meant (S .args .waiting) (lent S))
+    (measurementOf (S .args .pauli) (S .args .qubit) (S .args .outcome)))
 number E =
     let S = E .before .before .before .before in
     let a = S .args in
-    numbered (meant (a .waiting) (lent S)) (S .pre .checked) (leb 2 (a .outcome) || (eqb (a .pauli) 0 || leb 4 (a .pauli)))
+    numbered (meant (a .waiting) (lent S)) (S .pre .checked)
+    (leb 2 (a .outcome) || (eqb (a .pauli) 0 || leb 4 (a .pauli)))
     (leb (a .n) (a .qubit)) (E .argument-number .ensures) (E .before .bit-at .ensures)
 
 bit-at-requires : tie.Need-bit-at-requires
@@ -37,7 +39,8 @@ returns : tie.Need-returns
 returns c =
     let S = c .before .before .before .before .before in
     let a = S .args in
-    arguments-refuse (meant (a .waiting) (lent S)) (a .pauli) (a .qubit) (a .outcome) (number (c .before)) (c .if1 .taken)
+    arguments-refuse (meant (a .waiting) (lent S)) (a .pauli) (a .qubit) (a .outcome) (number (c .before))
+    (c .if1 .taken)
 
 contradicted-requires : tie.Need-contradicted-requires
 contradicted-requires c κs =

@@ -25,21 +25,25 @@ returns : tie.Need-returns
 returns c =
     let S = c .before .before .before .before .before .before .before in
     let a = S .args in
-    refused-measurement (a .waiting) (lent S) (S .pre) (a .pauli) (a .qubit) (a .outcome) (c .before .measure-number .ensures) (c .if1 .taken)
+    refused-measurement (a .waiting) (lent S) (S .pre) (a .pauli) (a .qubit) (a .outcome)
+    (c .before .measure-number .ensures) (c .if1 .taken)
 
 measure-unsettled-requires : tie.Need-measure-unsettled-requires
 measure-unsettled-requires c κs =
     let D = c .before .before in
     let S = c .before .before .before .before .before .before .before .before .before in
     let a = S .args in
-    measure-asks _ (lent S) (S .pre) (a .pauli) (a .qubit) (a .outcome) (D .before .measure-number .ensures) (D .if1 .left)
+    measure-asks _ (lent S) (S .pre) (a .pauli) (a .qubit) (a .outcome) (D .before .measure-number .ensures)
+    (D .if1 .left)
 
 single-requires : tie.Need-single-requires
 single-requires c κs =
     let D = c .before .before .before .before .before .before .before in
-    let S = c .before .before .before .before .before .before .before .before .before .before .before .before .before .before in
+    let S = c .before .before .before .before .before .before .before .before .before .before .before .before .before
+    .before in
     let a = S .args in
-    measure-below _ (lent S) (S .pre) (a .pauli) (a .qubit) (a .outcome) (D .before .measure-number .ensures) (D .if1 .left)
+    measure-below _ (lent S) (S .pre) (a .pauli) (a .qubit) (a .outcome) (D .before .measure-number .ensures)
+    (D .if1 .left)
 
 outcome-number-requires : tie.Need-outcome-number-requires
 outcome-number-requires c κs = search needs
@@ -56,11 +60,14 @@ same-length-4 c = search needs
 returns-2 : tie.Need-returns-2
 returns-2 c =
     let D = c .before .before .before .before .before .before .before .before .before .before in
-    let S = c .before .before .before .before .before .before .before .before .before .before .before .before .before .before .before .before .before in
+    let S = c .before .before .before .before .before .before .before .before .before .before .before .before .before
+    .before .before .before .before in
     let a = S .args in
     let M = c .before .before .before .before .before .before .before .measure-unsettled .ensures in
-    measure-stepped _ (lent S) (S .pre) (a .pauli) (a .qubit) (a .outcome) (D .before .measure-number .ensures) (D .if1 .left)
-    _ _ _ _ _ _ (M .0) (M .1) (ap (bitOr (a .used .now)) (c .before .before .single .ensures)) (c .before .outcome-number .ensures) (c .determined-number .ensures)
+    measure-stepped _ (lent S) (S .pre) (a .pauli) (a .qubit) (a .outcome) (D .before .measure-number .ensures)
+    (D .if1 .left)
+    _ _ _ _ _ _ (M .0) (M .1) (ap (bitOr (a .used .now)) (c .before .before .single .ensures))
+    (c .before .outcome-number .ensures) (c .determined-number .ensures)
 
 pub measure-waiting-spec : {M : Type 1} → statement M
 measure-waiting-spec =

@@ -7,7 +7,13 @@ use Rattle.buffers.specs.Refusals.{firstFitting}
 use Rattle.call_run.specs.internal.Waiting.{meant}
 use Rattle.operations.specs.Steps.{measurementOf}
 use Rattle.operations.specs.Used.{usedArgumentsOf, UsedRecord, usedRecord}
-use Rattle.call_run.proofs.WaitingLaws.{asks-before, numbered, observe-below, observe-stepped, refused-observation}
+use Rattle.call_run.proofs.WaitingLaws.{
+  asks-before,
+  numbered,
+  observe-below,
+  observe-stepped,
+  refused-observation,
+}
 use borrow.Author.Needs.{needs}
 use Rattle.call_run.proofs.waiting.observe_waiting.Statement.{statement}
 use Rattle.call_run.proofs.waiting.observe_waiting.Tie as tie
@@ -23,7 +29,8 @@ at E = E .before .before .before .before .before
 -- the number of the lines of its arguments
 number : (E : tie.After-argument-number) → let S = at E in
     E .argument-number .result
-    ≡ firstFitting (usedArgumentsOf (meant (S .args .waiting) (lent S)) (measurementOf (S .args .pauli) (S .args .qubit) (S .args .bit)))
+    ≡ firstFitting (usedArgumentsOf (meant (S .args .waiting) (lent S))
+    (measurementOf (S .args .pauli) (S .args .qubit) (S .args .bit)))
 number E =
     let S = at E in
     let a = S .args in
@@ -40,7 +47,8 @@ returns : tie.Need-returns
 returns c =
     let S = at (c .before) in
     let a = S .args in
-    refused-observation (a .waiting) (lent S) (S .pre) (a .pauli) (a .qubit) (a .bit) (number (c .before)) (c .if1 .taken)
+    refused-observation (a .waiting) (lent S) (S .pre) (a .pauli) (a .qubit) (a .bit) (number (c .before))
+    (c .if1 .taken)
 
 measure-unsettled-requires : tie.Need-measure-unsettled-requires
 measure-unsettled-requires c κs =
@@ -75,7 +83,8 @@ returns-2 c =
     let a = S .args in
     let M = c .before .before .before .before .before .before .before .measure-unsettled .ensures in
     observe-stepped _ (lent S) (S .pre) (a .pauli) (a .qubit) (a .bit) (number (D .before)) (D .if1 .left)
-    _ _ _ _ _ _ (M .0) (M .1) (ap (bitOr (a .used .now)) (c .before .before .single .ensures)) (c .before .outcome-number .ensures) (c .determined-number .ensures)
+    _ _ _ _ _ _ (M .0) (M .1) (ap (bitOr (a .used .now)) (c .before .before .single .ensures))
+    (c .before .outcome-number .ensures) (c .determined-number .ensures)
 
 pub observe-waiting-spec : {M : Type 1} → statement M
 observe-waiting-spec =

@@ -12,7 +12,8 @@ settle-waiting-requires c κs = search needs
 
 pivot-known-requires : tie.Need-pivot-known-requires
 pivot-known-requires c κs =
-    subst UsedUnrefused (sym (c .before .before .before .before .before .before .settle-waiting .ensures)) (c .before .before .before .before .before .before .before .before .before .before .before .pre .checked)
+    subst UsedUnrefused (sym (c .before .before .before .before .before .before .settle-waiting .ensures))
+    (c .before .before .before .before .before .before .before .before .before .before .before .pre .checked)
 
 same-length : tie.Need-same-length
 same-length c = search needs
@@ -23,9 +24,12 @@ same-length-2 c = search needs
 returns : tie.Need-returns
 returns c =
     let K = c .before .before .before .before in
-    let S = c .before .before .before .before .before .before .before .before .before .before .before .before .before .before .before .before in
-    call-as _ _ (pivotOf (S .args .j) (S .args .k)) (K .pivot-known .last .1 .0) (K .pivot-known .last .1 .1 .0) (K .pivot-known .result)
-    (c .before .before .before .before .before .before .before .before .before .before .before .settle-waiting .ensures) (K .pivot-known .ensures)
+    let S = c .before .before .before .before .before .before .before .before .before .before .before .before .before
+    .before .before .before in
+    call-as _ _ (pivotOf (S .args .j) (S .args .k)) (K .pivot-known .last .1 .0) (K .pivot-known .last .1 .1 .0)
+    (K .pivot-known .result)
+    (c .before .before .before .before .before .before .before .before .before .before .before .settle-waiting .ensures)
+    (K .pivot-known .ensures)
 
 pub pivot-waiting-spec : {M : Type 1} → statement M
 pivot-waiting-spec =

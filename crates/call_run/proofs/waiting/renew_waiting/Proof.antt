@@ -12,7 +12,8 @@ settle-waiting-requires c κs = search needs
 renew-known-requires : tie.Need-renew-known-requires
 renew-known-requires c κs =
     let W = c .before .before .before .before .before .before .before in
-    subst UsedUnrefused (sym (W .settle-waiting .ensures)) (W .before .before .before .before .before .before .pre .checked)
+    subst UsedUnrefused (sym (W .settle-waiting .ensures))
+    (W .before .before .before .before .before .before .pre .checked)
 
 same-length : tie.Need-same-length
 same-length c = search needs

@@ -13,7 +13,8 @@ lent S =
     usedRecord (S .args .n) (S .args .neighbours .now) (S .args .codes .now) (S .args .used)
 
 normalise-requires : tie.Need-normalise-requires
-normalise-requires c κs = ready-held _ (lent (c .before .before .before .before .before)) (c .before .before .before .before .before .pre)
+normalise-requires c κs = ready-held _ (lent (c .before .before .before .before .before))
+    (c .before .before .before .before .before .pre)
 
 same-length : tie.Need-same-length
 same-length c = search needs

@@ -41,16 +41,21 @@ returns : tie.Need-returns
 returns c =
     let S = c .before .before .before .before .before .before .before .before in
     let a = S .args in
-    λ R R₂ H H₂. pair-large (a .limited) (a .n) (a .neighbours .now) (a .codes .now) (a .neighbours2 .now) (a .codes2 .now)
+    λ R R₂ H H₂. pair-large (a .limited) (a .n) (a .neighbours .now) (a .codes .now) (a .neighbours2 .now)
+    (a .codes2 .now)
     (large-tests (a .limited) (a .n) (a .neighbours .now) (a .neighbours2 .now) _ _ (S .pre .0 .neighbours-length)
-    (S .pre .1 .0 .neighbours-length) (c .before .too-large .ensures) (c .if1 .taken)) R R₂ H H₂ (a .choice .now) (a .list .now) (a .count .now)
+    (S .pre .1 .0 .neighbours-length) (c .before .too-large .ensures) (c .if1 .taken)) R R₂ H H₂ (a .choice .now)
+    (a .list .now) (a .count .now)
 
 -- src/lib.rt:91:9
 compare-parts-requires : tie.Need-compare-parts-requires
 compare-parts-requires c κs =
     let S = c .before .before .before .before .before .before .before .before in
-    let a = S .args in
-    (S .pre .0 .positive, accepted-pair (a .n) (a .neighbours .now) (a .codes .now) (a .neighbours2 .now) (a .codes2 .now) (S .pre .0) (S .pre .1 .0))
+    let a = S .args in (
+      S .pre .0 .positive,
+      accepted-pair (a .n) (a .neighbours .now) (a .codes .now) (a .neighbours2 .now)
+          (a .codes2 .now) (S .pre .0) (S .pre .1 .0),
+    )
 
 -- src/lib.rt:93:9
 returns-2 : tie.Need-returns-2
@@ -59,9 +64,11 @@ returns-2 c =
     let E₁ = T .before in
     let S = E₁ .before .before .before .before .before .before .before .before in
     let a = S .args in
-    let small = (large-tests (a .limited) (a .n) (a .neighbours .now) (a .neighbours2 .now) _ _ (S .pre .0 .neighbours-length)
+    let small = (large-tests (a .limited) (a .n) (a .neighbours .now) (a .neighbours2 .now) _ _
+    (S .pre .0 .neighbours-length)
     (S .pre .1 .0 .neighbours-length) (E₁ .before .too-large .ensures) (E₁ .if1 .left)) in
-    λ R R₂ H H₂. pair-refused (a .limited) (a .n) (a .neighbours .now) (a .codes .now) (a .neighbours2 .now) (a .codes2 .now) (S .pre .0) (S .pre .1 .0) small
+    λ R R₂ H H₂. pair-refused (a .limited) (a .n) (a .neighbours .now) (a .codes .now) (a .neighbours2 .now)
+    (a .codes2 .now) (S .pre .0) (S .pre .1 .0) small
     (T .compare-parts .result .found) (T .compare-parts .result .choice) (T .compare-parts .ensures) R R₂ H H₂
     (a .choice .now) (a .list .now) (a .count .now) (not-true _ (c .if2 .taken))
 
@@ -70,7 +77,8 @@ returns-2 c =
 -- src/lib.rt:98:70
 slice-aggregate-induced-image : tie.Need-slice-aggregate-induced-image
 slice-aggregate-induced-image c =
-    let S = c .before .before .before .before .before .before .before .before .before .before .before .before .before .before .before .before .before .before in
+    let S = c .before .before .before .before .before .before .before .before .before .before .before .before .before
+    .before .before .before .before .before in
     sym (part-long _ _ (S .pre .0 .upto) refl)
 
 -- src/lib.rt:98:9
@@ -82,7 +90,8 @@ induced-image-requires c κs =
     let E₁ = T .before in
     let S = E₁ .before .before .before .before .before .before .before .before in
     let a = S .args in
-    let small = (large-tests (a .limited) (a .n) (a .neighbours .now) (a .neighbours2 .now) _ _ (S .pre .0 .neighbours-length)
+    let small = (large-tests (a .limited) (a .n) (a .neighbours .now) (a .neighbours2 .now) _ _
+    (S .pre .0 .neighbours-length)
     (S .pre .1 .0 .neighbours-length) (E₁ .before .too-large .ensures) (E₁ .if1 .left)) in
     let x = T .compare-parts .result .choice in
     let e = choice-written (a .n) x (a .choice .now) _ (S .pre .1 .1 .0) (K .copy-bytes .ensures) in (
@@ -90,8 +99,10 @@ induced-image-requires c κs =
       (
         (choice-long (a .n) x _ e, S .pre .1 .0 .codes-length, part-long _ _ (S .pre .0 .upto) refl),
         (
-          chosen-codes (a .limited) (a .n) (a .neighbours .now) (a .codes .now) (a .neighbours2 .now) (a .codes2 .now) (S .pre .0) (S .pre .1 .0) small
-              (T .compare-parts .result .found) (T .compare-parts .result .choice) (T .compare-parts .ensures) (not-false _ (E .if2 .left)) _ e,
+          chosen-codes (a .limited) (a .n) (a .neighbours .now) (a .codes .now) (a .neighbours2 .now) (a .codes2 .now)
+              (S .pre .0) (S .pre .1 .0) small
+              (T .compare-parts .result .found) (T .compare-parts .result .choice) (T .compare-parts .ensures)
+              (not-false _ (E .if2 .left)) _ e,
           S .pre .1 .0 .codes-below,
         ),
       ),
@@ -101,7 +112,8 @@ induced-image-requires c κs =
 copy-list-requires : tie.Need-copy-list-requires
 copy-list-requires c κs =
     let J = c .before .before .before in
-    let S = J .before .before .before .before .before .before .before .before .before .before .before .before .before .before .before .before .before .before .before in
+    let S = J .before .before .before .before .before .before .before .before .before .before .before .before .before
+    .before .before .before .before .before .before in
     let I = J .induced-image .ensures in
     (I .room, subst (λ k. J .induced-image .result .count ≤ k) (sym (S .pre .1 .1 .1)) (I .room))
 
@@ -118,11 +130,13 @@ returns-3 c =
     let E₁ = T .before in
     let S = E₁ .before .before .before .before .before .before .before .before in
     let a = S .args in
-    let small = (large-tests (a .limited) (a .n) (a .neighbours .now) (a .neighbours2 .now) _ _ (S .pre .0 .neighbours-length)
+    let small = (large-tests (a .limited) (a .n) (a .neighbours .now) (a .neighbours2 .now) _ _
+    (S .pre .0 .neighbours-length)
     (S .pre .1 .0 .neighbours-length) (E₁ .before .too-large .ensures) (E₁ .if1 .left)) in
     let x = T .compare-parts .result .choice in
     let e = choice-written (a .n) x (a .choice .now) _ (S .pre .1 .1 .0) (K .copy-bytes .ensures) in
-    λ R R₂ H H₂. pair-accepted (a .limited) (a .n) (a .neighbours .now) (a .codes .now) (a .neighbours2 .now) (a .codes2 .now) (S .pre .0) (S .pre .1 .0) small
+    λ R R₂ H H₂. pair-accepted (a .limited) (a .n) (a .neighbours .now) (a .codes .now) (a .neighbours2 .now)
+    (a .codes2 .now) (S .pre .0) (S .pre .1 .0) small
     (T .compare-parts .result .found) (T .compare-parts .result .choice) (T .compare-parts .ensures) R R₂ H H₂
     (not-false _ (E .if2 .left)) _ e _ (J .induced-image .ensures) (a .choice .now) (a .list .now) _ (a .count .now) _
     (M .copy-list .ensures) refl

@@ -13,7 +13,8 @@ returns : tie.Need-returns
 returns c =
     let a = c .before .before .before .args in
     limit-off (a .limited) (partAbove 20 (length (a .neighbours .now)) (graphIn (a .neighbours .now))
-    || partAbove 20 (length (a .neighbours2 .now)) (graphIn (a .neighbours2 .now))) (not-true (a .limited) (c .if1 .taken))
+    || partAbove 20 (length (a .neighbours2 .now)) (graphIn (a .neighbours2 .now)))
+    (not-true (a .limited) (c .if1 .taken))
 
 returns-2 : tie.Need-returns-2
 returns-2 c =

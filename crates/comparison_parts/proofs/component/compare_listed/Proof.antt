@@ -26,7 +26,8 @@ extract-requires c κs =
 -- src/lib.rt:48:5
 extract-requires-2 : tie.Need-extract-requires-2
 extract-requires-2 c κs =
-    let S = c .before .before .before .before .before .before .before .before .before .before .before .before .before .before .before .before .before in
+    let S = c .before .before .before .before .before .before .before .before .before .before .before .before .before
+    .before .before .before .before in
     let G = S .pre .0 in
     let F = G .pair .second in (
       (omega (arith, G .few, S .pre .1 .0 .1), S .pre .1 .0 .2 ∙ sym (S .pre .1 .0 .1)),
@@ -48,11 +49,17 @@ search-records-requires c κs =
     let k = length (a .words .now) in
     let ew = E .extract2 .ensures .0 ∙ ap (λ m. partWords m (a .at) (a .neighbours2 .now)) (S .pre .1 .0 .1) in
     let en = E .extract2 .ensures .1 ∙ ap (λ m. partCodes m (a .at) (a .codes2 .now)) (S .pre .1 .0 .1) in (
-      (G .few, first-sound (a .n) (a .neighbours .now) (a .codes .now) (a .neighbours2 .now) (a .codes2 .now) (a .component) k (a .at) G _ _ _ _ (H .extract .ensures .0) (H .extract .ensures .1) ew en),
+      (
+        G .few,
+        first-sound (a .n) (a .neighbours .now) (a .codes .now) (a .neighbours2 .now) (a .codes2 .now)
+            (a .component) k (a .at) G _ _ _ _ (H .extract .ensures .0) (H .extract .ensures .1) ew en,
+      ),
       (
         (
-          second-sound (a .n) (a .neighbours .now) (a .codes .now) (a .neighbours2 .now) (a .codes2 .now) (a .component) k (a .at) G _ _ _ _ (H .extract .ensures .0) (H .extract .ensures .1) ew en,
-          first-connected (a .n) (a .neighbours .now) (a .codes .now) (a .neighbours2 .now) (a .codes2 .now) (a .component) k (a .at) G _ _ _ _ (H .extract .ensures .0) (H .extract .ensures .1) ew en,
+          second-sound (a .n) (a .neighbours .now) (a .codes .now) (a .neighbours2 .now) (a .codes2 .now) (a .component)
+              k (a .at) G _ _ _ _ (H .extract .ensures .0) (H .extract .ensures .1) ew en,
+          first-connected (a .n) (a .neighbours .now) (a .codes .now) (a .neighbours2 .now) (a .codes2 .now)
+              (a .component) k (a .at) G _ _ _ _ (H .extract .ensures .0) (H .extract .ensures .1) ew en,
         ),
         S .pre .1 .1,
       ),
@@ -73,7 +80,8 @@ returns c =
     let k = length (a .words .now) in
     let ew = E .extract2 .ensures .0 ∙ ap (λ m. partWords m (a .at) (a .neighbours2 .now)) (S .pre .1 .0 .1) in
     let en = E .extract2 .ensures .1 ∙ ap (λ m. partCodes m (a .at) (a .codes2 .now)) (S .pre .1 .0 .1) in (
-      part-answered (a .n) (a .neighbours .now) (a .codes .now) (a .neighbours2 .now) (a .codes2 .now) (a .component) k (a .at) G _ _ _ _ (H .extract .ensures .0) (H .extract .ensures .1) ew en
+      part-answered (a .n) (a .neighbours .now) (a .codes .now) (a .neighbours2 .now) (a .codes2 .now) (a .component) k
+          (a .at) G _ _ _ _ (H .extract .ensures .0) (H .extract .ensures .1) ew en
           _ _ (c .search-records .ensures .0),
       c .search-records .ensures .1,
     )

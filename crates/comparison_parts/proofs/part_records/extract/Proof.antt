@@ -56,7 +56,8 @@ shared-slice-read-numbers : tie.Need-shared-slice-read-numbers Inv-loop μ-loop
 shared-slice-read-numbers c =
     let I = c .before .before .before in
     let S = I .before .before .before .before .before .before in
-    subst (λ m. getD (S .args .t3) (I .before .loop .i) 0 < m) (sym (S .pre .1 .1)) (S .pre .1 .2 (I .before .loop .i) (I .loop-test .taken))
+    subst (λ m. getD (S .args .t3) (I .before .loop .i) 0 < m) (sym (S .pre .1 .1))
+    (S .pre .1 .2 (I .before .loop .i) (I .loop-test .taken))
 
 -- src/lib.rt:71:9
 slice-write-numbers : tie.Need-slice-write-numbers Inv-loop μ-loop
@@ -76,7 +77,8 @@ loop-again : tie.Need-loop-again Inv-loop μ-loop
 loop-again c =
     let I = c .before .before .before in
     let L = I .before in (
-      fill-step _ _ (L .loop .words) (L .loop .i) _ (L .loop .inv .0) (I .loop-test .taken) (c .before .compress .ensures),
+      fill-step _ _ (L .loop .words) (L .loop .i) _ (L .loop .inv .0) (I .loop-test .taken)
+          (c .before .compress .ensures),
       fill-step _ _ (L .loop .numbers) (L .loop .i) _ (L .loop .inv .1) (I .loop-test .taken) refl,
     )
 

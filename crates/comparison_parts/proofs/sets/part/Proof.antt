@@ -47,7 +47,8 @@ returns : tie.Need-returns Inv-loop μ-loop
 returns c =
     let S = c .before .before .before .before .before in
     let nb = S .args .neighbours .now in
-    grown (length nb) (graphIn nb) (S .pre .1) (S .args .q) (S .pre .0 .1) _ _ (c .before .loop .inv) (c .loop-test .left)
+    grown (length nb) (graphIn nb) (S .pre .1) (S .args .q) (S .pre .0 .1) _ _ (c .before .loop .inv)
+    (c .loop-test .left)
 
 pub part-spec : {M : Type 1} → statement M
 part-spec =

@@ -23,7 +23,8 @@ loop-again c =
     let s = c .before .before .before in
     let l = c .before .before .loop in
     let more = c .before .loop-test .taken in
-    sign-next (s .args .n) (s .args .t2) (l .q) (l .words) (c .place-signs .result) more (c .place-signs .ensures) (l .inv)
+    sign-next (s .args .n) (s .args .t2) (l .q) (l .words) (c .place-signs .result) more (c .place-signs .ensures)
+    (l .inv)
 
 returns : tie.Need-returns Inv-loop μ-loop
 returns c =

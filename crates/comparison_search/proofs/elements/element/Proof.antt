@@ -29,7 +29,8 @@ times-requires : tie.Need-times-requires Inv-loop μ-loop
 times-requires c κs =
     let l = c .before .before .before .before .loop in
     let s = c .before .before .before .before .before .before in
-    let proper = framed-proper (s .args .n) (generatorsOf (generatorsIn (s .args .second .now))) (s .pre .1 .0) (s .pre .1 .1) in
+    let proper = framed-proper (s .args .n) (generatorsOf (generatorsIn (s .args .second .now))) (s .pre .1 .0)
+    (s .pre .1 .1) in
     subst (λ g. anticommute 64 (generatorOf (l .h)) (generatorOf g) ≡ false) (sym (c .generator-at .ensures))
     (next-commutes (s .args .n) (omega arith) (generatorsOf (generatorsIn (s .args .second .now))) (proper .within)
     (bit (c .before .before .before .before .before .act-on .result .x)) (l .j) (generatorOf (l .h)) (l .inv)
@@ -57,9 +58,11 @@ loop-again c =
 returns : tie.Need-returns Inv-loop μ-loop
 returns c =
     let s = c .before .before .before in
-    guessed (s .args .n) (omega arith) (generatorsOf (generatorsIn (s .args .second .now))) (s .pre .1 .0) (s .pre .1 .1)
+    guessed (s .args .n) (omega arith) (generatorsOf (generatorsIn (s .args .second .now))) (s .pre .1 .0)
+    (s .pre .1 .1)
     (generatorOf (s .args .p)) (generatorOf (c .before .before .act-on .result))
-    (c .before .before .act-on .ensures (s .pre .1 .0) (s .pre .1 .2)) (c .before .loop .j) _ (c .loop-test .left) (c .before .loop .inv)
+    (c .before .before .act-on .ensures (s .pre .1 .0) (s .pre .1 .2)) (c .before .loop .j) _ (c .loop-test .left)
+    (c .before .loop .inv)
 
 pub element-spec : {M : Type 1} → statement M
 element-spec =

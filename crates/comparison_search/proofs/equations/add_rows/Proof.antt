@@ -1,4 +1,5 @@
--- `add_rows` meets its contract: an equation with those equations of the table added whose last unknown is unknown l of a
+-- `add_rows` meets its contract: an equation with those equations of the table added whose last unknown is unknown l of
+-- a
 -- marked qubit.
 use mathlib.Core.List.{[]}
 use mathlib.Core.Path.{refl, sym}
@@ -38,7 +39,8 @@ without-smallest-requires c κs = c .before .before .before .loop-test .taken
 loop-less : tie.Need-loop-less Inv-loop μ-loop
 loop-less c =
     let l = c .before .before .before .before .before .loop in
-    fewer-qubits (l .rest) (l .inv .1) (c .before .before .before .before .loop-test .taken) _ (c .without-smallest .ensures)
+    fewer-qubits (l .rest) (l .inv .1) (c .before .before .before .before .loop-test .taken) _
+    (c .without-smallest .ensures)
 
 loop-again : tie.Need-loop-again Inv-loop μ-loop
 loop-again c =
@@ -46,11 +48,13 @@ loop-again c =
     let l = c .before .before .before .before .before .loop in
     let i = 4 * c .before .before .before .smallest .result + a .l in
     let less =
-    fewer-qubits (l .rest) (l .inv .1) (c .before .before .before .before .loop-test .taken) _ (c .without-smallest .ensures) in (
+    fewer-qubits (l .rest) (l .inv .1) (c .before .before .before .before .loop-test .taken) _
+    (c .without-smallest .ensures) in (
       l .inv .0,
       omega (arith, less, l .inv .1),
       sum-more (equationsIn (a .table .now)) _ (equationOf (l .left)) (equationOf (getD (a .table .now) i []))
-          (equationOf (c .before .add .result)) i (l .inv .2) (sym (row-at (a .table .now) i)) (c .before .add .ensures),
+          (equationOf (c .before .add .result)) i (l .inv .2) (sym (row-at (a .table .now) i))
+          (c .before .add .ensures),
     )
 
 returns : tie.Need-returns Inv-loop μ-loop
@@ -59,5 +63,6 @@ returns c = c .before .loop .inv .2
 pub add-rows-spec : {M : Type 1} → statement M
 add-rows-spec =
     tie.close
-    (tie.spec Inv-loop μ-loop loop-holds (λ c κs. search needs) (λ c. search needs) (λ c. search needs) (λ c. search needs)
+    (tie.spec Inv-loop μ-loop loop-holds (λ c κs. search needs) (λ c. search needs) (λ c. search needs)
+    (λ c. search needs)
     element-copy-out-p (λ c κs. search needs) without-smallest-requires loop-less loop-again returns)

@@ -18,7 +18,8 @@ returns-2 c =
     let t = c .before .before .before .size in
     let e = equationOf (c .before .before .before .before .args .t1) in (
       omega (arith, t .ensures .0),
-      bound-d e (t .result) (t .ensures .1) (c .before .before .if1 .left) (sym (c .before .has .ensures) ∙ c .if2 .taken),
+      bound-d e (t .result) (t .ensures .1) (c .before .before .if1 .left)
+          (sym (c .before .has .ensures) ∙ c .if2 .taken),
     )
 
 returns-3 : tie.Need-returns-3
@@ -56,4 +57,8 @@ returns-5 c =
 pub bound-spec : {M : Type 1} → statement M
 bound-spec =
     tie.close
-    (tie.spec (λ c. search needs) (λ c. search needs) (λ c. search needs) (λ c. search needs) (λ c κs. search needs) returns (λ c. search needs) (λ c. search needs) (λ c κs. search needs) (λ c. search needs) (λ c. search needs) returns-2 (λ c. search needs) (λ c κs. search needs) (λ c. search needs) (λ c. search needs) returns-3 (λ c. search needs) (λ c κs. search needs) (λ c. search needs) (λ c. search needs) returns-4 (λ c. search needs) (λ c. search needs) returns-5)
+    (tie.spec (λ c. search needs) (λ c. search needs) (λ c. search needs) (λ c. search needs) (λ c κs. search needs)
+    returns (λ c. search needs) (λ c. search needs) (λ c κs. search needs) (λ c. search needs) (λ c. search needs)
+    returns-2 (λ c. search needs) (λ c κs. search needs) (λ c. search needs) (λ c. search needs) returns-3
+    (λ c. search needs) (λ c κs. search needs) (λ c. search needs) (λ c. search needs) returns-4
+    (λ c. search needs) (λ c. search needs) returns-5)

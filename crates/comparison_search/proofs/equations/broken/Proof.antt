@@ -24,7 +24,8 @@ returns c =
     let a = c .before .before .before .before .before .args in
     let l = c .before .before .before .before .loop in
     one-fails (equationsIn (a .table .now)) (a .q) (assignmentOf (a .w)) (l .i) (l .inv .1)
-    (c .before .before .before .loop-test .taken) (equationOf (getD (a .table .now) (l .i) [])) (c .before .fails .result)
+    (c .before .before .before .loop-test .taken) (equationOf (getD (a .table .now) (l .i) []))
+    (c .before .fails .result)
     (sym (row-at (a .table .now) (l .i))) (c .before .fails .ensures) (c .if1 .taken)
 
 loop-again : tie.Need-loop-again Inv-loop μ-loop

@@ -36,7 +36,11 @@ has-unknown-requires c κs = c .before .before .loop .inv .0
 
 element-set-from-table : tie.Need-element-set-from-table Inv-loop μ-loop
 element-set-from-table c =
-    omega (arith, c .before .before .before .before .before .loop .inv .1, c .before .before .before .before .loop-test .taken)
+    omega (
+      arith,
+      c .before .before .before .before .before .loop .inv .1,
+      c .before .before .before .before .loop-test .taken,
+    )
 
 add-k-2 : tie.Need-add-k-2 Inv-loop μ-loop
 add-k-2 c =

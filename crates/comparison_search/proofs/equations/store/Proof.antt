@@ -53,7 +53,8 @@ returns c =
     subst (Inserted (equationsIn (s .args .table .now)) (equationOf (s .args .e)))
     (sym (row-set (l .table) (l .i - 1) (l .left)))
     (insert-stored (equationsIn (s .args .table .now)) (equationOf (s .args .e)) (s .pre) (equationsIn (l .table))
-    (equationOf (l .left)) (l .i) more (l .inv .2) (omega (arith, l .inv .0, more)) (l .inv .1 .last more) (equationOf p)
+    (equationOf (l .left)) (l .i) more (l .inv .2) (omega (arith, l .inv .0, more)) (l .inv .1 .last more)
+    (equationOf p)
     (sym (row-at (l .table) (l .i - 1)))
     (c .before .empty .ensures .0 (c .if1 .taken)))
 
@@ -65,11 +66,13 @@ loop-less c =
     let p = getD (l .table) (l .i - 1) [] in
     let S =
     insert-added (equationsIn (s .args .table .now)) (equationOf (s .args .e)) (s .pre) (equationsIn (l .table))
-    (equationOf (l .left)) (l .i) more (l .inv .2) (l .inv .1 .last more) (equationOf p) (equationOf (c .before .add .result))
+    (equationOf (l .left)) (l .i) more (l .inv .2) (l .inv .1 .last more) (equationOf p)
+    (equationOf (c .before .add .result))
     (sym (row-at (l .table) (l .i - 1)))
     (c .before .before .before .empty .ensures .1 (c .before .before .if1 .left)) (c .before .add .ensures) in
     let lower =
-    bound-least (equationOf (c .before .add .result)) (c .bound2 .result) (l .i - 1) (c .bound2 .ensures .1) (S .above) in
+    bound-least (equationOf (c .before .add .result)) (c .bound2 .result) (l .i - 1) (c .bound2 .ensures .1) (S .above)
+    in
     omega (arith, lower, more)
 
 loop-again : tie.Need-loop-again Inv-loop μ-loop
@@ -80,11 +83,13 @@ loop-again c =
     let p = getD (l .table) (l .i - 1) [] in
     let S =
     insert-added (equationsIn (s .args .table .now)) (equationOf (s .args .e)) (s .pre) (equationsIn (l .table))
-    (equationOf (l .left)) (l .i) more (l .inv .2) (l .inv .1 .last more) (equationOf p) (equationOf (c .before .add .result))
+    (equationOf (l .left)) (l .i) more (l .inv .2) (l .inv .1 .last more) (equationOf p)
+    (equationOf (c .before .add .result))
     (sym (row-at (l .table) (l .i - 1)))
     (c .before .before .before .empty .ensures .1 (c .before .before .if1 .left)) (c .before .add .ensures) in
     let lower =
-    bound-least (equationOf (c .before .add .result)) (c .bound2 .result) (l .i - 1) (c .bound2 .ensures .1) (S .above) in (
+    bound-least (equationOf (c .before .add .result)) (c .bound2 .result) (l .i - 1) (c .bound2 .ensures .1) (S .above)
+    in (
       omega (arith, lower, l .inv .0),
       c .bound2 .ensures .1,
       insert-from S (c .bound2 .result) (c .bound2 .ensures .1 .above),
@@ -96,7 +101,8 @@ returns-2 c =
     let l = c .before .loop in
     insert-nothing (equationsIn (s .args .table .now)) (equationOf (s .args .e)) (s .pre) (equationsIn (l .table))
     (equationOf (l .left))
-    (subst (Inserting (equationsIn (s .args .table .now)) (equationOf (s .args .e)) (equationsIn (l .table)) (equationOf (l .left)))
+    (subst (Inserting (equationsIn (s .args .table .now)) (equationOf (s .args .e)) (equationsIn (l .table))
+    (equationOf (l .left)))
     (omega (arith, c .loop-test .left)) (l .inv .2))
 
 pub store-spec : {M : Type 1} → statement M

@@ -41,7 +41,8 @@ loop-again c =
     generator-stored 64 _ (l .rows) (l .j) (c .row-of .result) (c .before .act-on .result) (l .inv)
     (omega (arith, more, s .pre .0)) (c .row-of .ensures)
     (generator-sent (a .n) (s .pre .0) (a .neighbours .now) (a .codes .now) (s .pre .1) (l .j) more _
-    (c .before .before .single .ensures) _ (c .before .act-on .ensures (codesOf (a .codes .now)) (A .action-of .ensures)))
+    (c .before .before .single .ensures) _ (c .before .act-on .ensures (codesOf (a .codes .now))
+    (A .action-of .ensures)))
 
 returns : tie.Need-returns Inv-loop μ-loop
 returns c =
@@ -52,5 +53,6 @@ pub generators-spec : {M : Type 1} → statement M
 generators-spec =
     tie.close
     (tie.spec Inv-loop μ-loop action-of-requires loop-holds (λ c. search needs) (λ c. search needs)
-    (λ c κs. search needs) (λ c κs. search needs) (λ c κs. search needs) (λ c. search needs) (λ c. search needs) (λ c. search needs)
+    (λ c κs. search needs) (λ c κs. search needs) (λ c κs. search needs) (λ c. search needs) (λ c. search needs)
+    (λ c. search needs)
     (λ c. omega arith) loop-again returns)

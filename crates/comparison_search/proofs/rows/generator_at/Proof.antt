@@ -9,4 +9,5 @@ returns : tie.Need-returns
 returns c = sym (generator-at (c .before .args .rows .now) (c .before .args .j))
 
 pub generator-at-spec : {M : Type 1} → statement M
-generator-at-spec = tie.close (tie.spec (λ c. search needs) (λ c. search needs) (λ c. search needs) (λ c. search needs) (λ c. search needs) returns)
+generator-at-spec = tie.close (tie.spec (λ c. search needs) (λ c. search needs) (λ c. search needs) (λ c. search needs)
+    (λ c. search needs) returns)

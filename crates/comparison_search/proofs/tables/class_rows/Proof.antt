@@ -46,7 +46,8 @@ returns : tie.Need-returns Inv-loop μ-loop
 returns c =
     let a = c .before .before .args in
     let l = c .before .loop in
-    λ first i eg T. class-row (a .n) first (generatorsIn (a .second .now)) i (l .j) (c .loop-test .left) (equationsIn (l .table))
+    λ first i eg T. class-row (a .n) first (generatorsIn (a .second .now)) i (l .j) (c .loop-test .left)
+    (equationsIn (l .table))
     (l .inv .1 first i eg T)
 
 pub class-rows-spec : {M : Type 1} → statement M

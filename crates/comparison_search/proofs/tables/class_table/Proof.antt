@@ -13,7 +13,8 @@ use Rattle.comparison_search.proofs.tables.class_table.Statement.{state
 use Rattle.comparison_search.proofs.tables.class_table.Tie as tie
 
 abbrev Inv-loop : tie.InvT-loop
-Inv-loop table₀ n first second i₀ table i = (i ≤ n) × ClassTable n (generatorsIn first) (generatorsIn second) i 0 (equationsIn table)
+Inv-loop table₀ n first second i₀ table i = (i ≤ n) × ClassTable n (generatorsIn first) (generatorsIn second) i 0
+    (equationsIn table)
 
 abbrev μ-loop : tie.MeasureT-loop
 μ-loop table₀ n first second i₀ table i = n - i
@@ -22,7 +23,8 @@ loop-holds : tie.Need-loop-holds Inv-loop μ-loop
 loop-holds c =
     let a = c .args in (
       zero-le,
-      class-start (a .n) (generatorsIn (a .first .now)) (generatorsIn (a .second .now)) (equationsIn (a .table .now)) (empty-triangular _ (c .pre .1))
+      class-start (a .n) (generatorsIn (a .first .now)) (generatorsIn (a .second .now)) (equationsIn (a .table .now))
+          (empty-triangular _ (c .pre .1))
           (empty-solved _ (c .pre .1)),
     )
 
@@ -43,11 +45,13 @@ returns : tie.Need-returns Inv-loop μ-loop
 returns c =
     let a = c .before .before .args in
     let l = c .before .loop in
-    subst (λ k. ClassTable (a .n) (generatorsIn (a .first .now)) (generatorsIn (a .second .now)) k 0 (equationsIn (l .table)))
+    subst (λ k. ClassTable (a .n) (generatorsIn (a .first .now)) (generatorsIn (a .second .now)) k 0
+    (equationsIn (l .table)))
     (le-antisymm (l .inv .0) (c .loop-test .left)) (l .inv .1)
 
 pub class-table-spec : {M : Type 1} → statement M
 class-table-spec =
     tie.close
-    (tie.spec Inv-loop μ-loop loop-holds (λ c κs. search needs) class-rows-requires (λ c. search needs) (λ c. omega arith)
+    (tie.spec Inv-loop μ-loop loop-holds (λ c κs. search needs) class-rows-requires (λ c. search needs)
+    (λ c. omega arith)
     loop-again returns)

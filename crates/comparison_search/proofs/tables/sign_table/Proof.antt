@@ -23,14 +23,17 @@ use Rattle.comparison_search.proofs.tables.sign_table.Tie as tie
 
 abbrev Inv-loop : tie.InvT-loop
 Inv-loop table₀ n first second by undone i₀ table i =
-    (i ≤ n) × ((choice frame : List ℕ) → Setting n (generatorsIn first) (generatorsIn second) frame → SentUpToSign n (generatorsIn first) (generatorsIn second) (codesOf choice)
-    → NoSigns choice → ActsAs (codesOf (take n choice)) by → SignTable n (generatorsIn first) (generatorsIn second) (codesOf choice) i (equationsIn table))
+    (i ≤ n) × ((choice frame : List ℕ) → Setting n (generatorsIn first) (generatorsIn second) frame → SentUpToSign n
+    (generatorsIn first) (generatorsIn second) (codesOf choice)
+    → NoSigns choice → ActsAs (codesOf (take n choice)) by → SignTable n (generatorsIn first) (generatorsIn second)
+    (codesOf choice) i (equationsIn table))
 
 abbrev μ-loop : tie.MeasureT-loop
 μ-loop table₀ n first second by undone i₀ table i = n - i
 
 slice-aggregate-action-of : tie.Need-slice-aggregate-action-of Inv-loop μ-loop
-slice-aggregate-action-of c = sym (part-long _ _ (c .before .pre .0 .0 .few) (c .before .good .1 .1 .1 .1 .1 .0 .1 .0 .1))
+slice-aggregate-action-of c = sym (part-long _ _ (c .before .pre .0 .0 .few)
+    (c .before .good .1 .1 .1 .1 .1 .0 .1 .0 .1))
 
 action-of-requires : tie.Need-action-of-requires Inv-loop μ-loop
 action-of-requires c κs =
@@ -58,7 +61,8 @@ loop-holds c =
     let s = c .before .before .before .before in
     let a = s .args in (
       zero-le,
-      (λ choice frame S sent bare acts. sign-start (a .n) (generatorsIn (a .first .now)) (generatorsIn (a .second .now)) frame S (codesOf choice) sent
+      (λ choice frame S sent bare acts. sign-start (a .n) (generatorsIn (a .first .now)) (generatorsIn (a .second .now))
+          frame S (codesOf choice) sent
           (equationsIn (a .table .now)) (empty-triangular _ (s .pre .1 .1))
           (empty-solved _ (s .pre .1 .1))),
     )
@@ -66,26 +70,36 @@ loop-holds c =
 element-requires : tie.Need-element-requires Inv-loop μ-loop
 element-requires c κs =
     let s = c .before .before .before .before .before .before .before .before in
-    let S = s .pre .0 .0 in
-    (S .few, (codesOf (take (s .args .n) (s .args .t5)), first-frame (s .args .n) (s .args .t5) _ (S .framed), c .before .before .before .before .action-of2 .ensures))
+    let S = s .pre .0 .0 in (
+      S .few,
+      (
+        codesOf (take (s .args .n) (s .args .t5)),
+        first-frame (s .args .n) (s .args .t5) _ (S .framed),
+        c .before .before .before .before .action-of2 .ensures,
+      ),
+    )
 
 insert-requires : tie.Need-insert-requires Inv-loop μ-loop
 insert-requires c κs =
     let s = c .before .before .before .before .before .before .before .before .before .before .before .before .before in
     let a = s .args in
     let l = c .before .before .before .before .before .before .before .before .loop in
-    let T = l .inv .1 (a .t6) (a .t5) (s .pre .0 .0) (s .pre .1 .0) (s .pre .0 .2) (c .before .before .before .before .before .before .before .before .before .before .before .action-of .ensures) in
+    let T = l .inv .1 (a .t6) (a .t5) (s .pre .0 .0) (s .pre .1 .0) (s .pre .0 .2)
+    (c .before .before .before .before .before .before .before .before .before .before .before .action-of
+    .ensures) in
     (s .pre .0 .0 .few, T .0 .triangular)
 
 add-i : tie.Need-add-i Inv-loop μ-loop
 add-i c =
-    let few = c .before .before .before .before .before .before .before .before .before .before .before .before .before .before .pre .0 .0 .few in
+    let few = c .before .before .before .before .before .before .before .before .before .before .before .before .before
+    .before .pre .0 .0 .few in
     let more = c .before .before .before .before .before .before .before .before .loop-test .taken in
     search needs
 
 loop-again : tie.Need-loop-again Inv-loop μ-loop
 loop-again c =
-    let a = c .before .before .before .before .before .before .before .before .before .before .before .before .before .before .args in
+    let a = c .before .before .before .before .before .before .before .before .before .before .before .before .before
+    .before .args in
     let l = c .before .before .before .before .before .before .before .before .before .loop in
     let more = c .before .before .before .before .before .before .before .before .loop-test .taken in
     let p = c .before .before .before .before .before .before .act-on in
@@ -93,14 +107,18 @@ loop-again c =
     let g = c .before .before .before .before .before .before .before .generator-at in
     let e = c .before .before .sign-equation in (
       omega (arith, more),
-      (λ choice frame S sent bare acts. sign-more (a .n) (generatorsIn (a .first .now)) (generatorsIn (a .second .now)) frame S (codesOf choice) sent (l .i) more
+      (λ choice frame S sent bare acts. sign-more (a .n) (generatorsIn (a .first .now)) (generatorsIn (a .second .now))
+          frame S (codesOf choice) sent (l .i) more
           (equationsIn (l .table)) (equationOf (e .result)) _ (l .inv .1 choice frame S sent bare acts)
-          (sign-found (a .n) (generatorsIn (a .first .now)) (generatorsIn (a .second .now)) frame S (codesOf choice) sent bare (l .i) more (p .result) (h .result)
+          (sign-found (a .n) (generatorsIn (a .first .now)) (generatorsIn (a .second .now)) frame S (codesOf choice)
+          sent bare (l .i) more (p .result) (h .result)
           (p .ensures (codesOf (take (a .n) choice)) acts
           ∙ ap (λ g. act 64 (codesOf (take (a .n) choice)) (generatorOf g)) (g .ensures)
-          ∙ first-act (a .n) choice 64 (generatorsOf (generatorsIn (a .first .now)) (l .i)) (S .proper .within (l .i) more)) (h .ensures)
+          ∙ first-act (a .n) choice 64 (generatorsOf (generatorsIn (a .first .now)) (l .i))
+          (S .proper .within (l .i) more)) (h .ensures)
           (equationOf (e .result))
-          (e .ensures ∙ ap (λ g. signEquation g (not (Bool·beq (p .result .minus) (h .result .minus)))) (g .ensures))) (c .insert .ensures)),
+          (e .ensures ∙ ap (λ g. signEquation g (not (Bool·beq (p .result .minus) (h .result .minus)))) (g .ensures)))
+          (c .insert .ensures)),
     )
 
 returns : tie.Need-returns Inv-loop μ-loop
@@ -108,9 +126,11 @@ returns c =
     let s = c .before .before .before .before .before .before in
     let a = s .args in
     let l = c .before .loop in
-    subst (λ k. SignTable (a .n) (generatorsIn (a .first .now)) (generatorsIn (a .second .now)) (codesOf (a .t6)) k (equationsIn (l .table)))
+    subst (λ k. SignTable (a .n) (generatorsIn (a .first .now)) (generatorsIn (a .second .now)) (codesOf (a .t6)) k
+    (equationsIn (l .table)))
     (le-antisymm (l .inv .0) (c .loop-test .left))
-    (l .inv .1 (a .t6) (a .t5) (s .pre .0 .0) (s .pre .1 .0) (s .pre .0 .2) (c .before .before .before .before .action-of .ensures))
+    (l .inv .1 (a .t6) (a .t5) (s .pre .0 .0) (s .pre .1 .0) (s .pre .0 .2)
+    (c .before .before .before .before .action-of .ensures))
 
 pub sign-table-spec : {M : Type 1} → statement M
 sign-table-spec =

@@ -29,7 +29,8 @@ loop-again c =
     let s = l .before .before .before in (
       omega (arith, c .before .before .loop-test .taken),
       mapped-store (SignAt (s .args .graph .now) (s .args .sx) (s .args .sz)) (s .args .signs .now) (l .loop .signs)
-          (l .loop .j) (c .sign-byte .result) (l .loop .inv .1) (omega (arith, s .pre .1, c .before .before .loop-test .taken))
+          (l .loop .j) (c .sign-byte .result) (l .loop .inv .1)
+          (omega (arith, s .pre .1, c .before .before .loop-test .taken))
           (c .sign-byte .ensures),
     )
 

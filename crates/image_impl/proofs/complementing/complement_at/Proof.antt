@@ -32,10 +32,12 @@ single-requires c κs =
 
 returns : tie.Need-returns
 returns c =
-    let s = c .before .before .before .before .before .before .before .before .before .before .before .before .before .before .before .before in
+    let s = c .before .before .before .before .before .before .before .before .before .before .before .before .before
+    .before .before .before in
     let called = c .before .before .before .before .before .before .before .before .before in
     complemented-at _ _ (s .args .v) (s .pre .0) (s .pre .2) (s .pre .1) _ _
-    (c .before .before .before .before .single .result) (called .complement-record .ensures) (c .before .before .before .before .single .ensures)
+    (c .before .before .before .before .single .result) (called .complement-record .ensures)
+    (c .before .before .before .before .single .ensures)
 
 pub complement-at-spec : {M : Type 1} → statement M
 complement-at-spec =

@@ -28,7 +28,8 @@ same-length : tie.Need-same-length Inv-loop μ-loop
 same-length c =
     let called = c .before .before .before .before .before .before .before .before .before in
     let s = called .before .before .before .before .before .before .before .before in
-    round-end _ _ _ (s .pre .0) (s .pre .1) (called .before .before .before .before .loop .inv) _ (called .next-moves .ensures)
+    round-end _ _ _ (s .pre .0) (s .pre .1) (called .before .before .before .before .loop .inv) _
+    (called .next-moves .ensures)
     (c .if1 .taken) .tracking .long
 
 same-length-2 : tie.Need-same-length-2 Inv-loop μ-loop
@@ -42,28 +43,32 @@ same-length-3 : tie.Need-same-length-3 Inv-loop μ-loop
 same-length-3 c =
     let called = c .before .before .before .before .before .before .before .before .before in
     let s = called .before .before .before .before .before .before .before .before in
-    round-end _ _ _ (s .pre .0) (s .pre .1) (called .before .before .before .before .loop .inv) _ (called .next-moves .ensures)
+    round-end _ _ _ (s .pre .0) (s .pre .1) (called .before .before .before .before .loop .inv) _
+    (called .next-moves .ensures)
     (c .if1 .taken) .tracking .places ∙ sym (s .pre .1 .places)
 
 returns : tie.Need-returns Inv-loop μ-loop
 returns c =
     let called = c .before .before .before .before .before .before .before .before .before in
     let s = called .before .before .before .before .before .before .before .before in
-    round-end _ _ _ (s .pre .0) (s .pre .1) (called .before .before .before .before .loop .inv) _ (called .next-moves .ensures)
+    round-end _ _ _ (s .pre .0) (s .pre .1) (called .before .before .before .before .loop .inv) _
+    (called .next-moves .ensures)
     (c .if1 .taken)
 
 loop-less : tie.Need-loop-less Inv-loop μ-loop
 loop-less c =
     let called = c .before .before .before .before .before .before .before .before .before in
     let s = called .before .before .before .before .before .before .before .before in
-    round-on _ _ _ (s .pre .0) (s .pre .1) (called .before .before .before .before .loop .inv) _ (called .next-moves .ensures)
+    round-on _ _ _ (s .pre .0) (s .pre .1) (called .before .before .before .before .loop .inv) _
+    (called .next-moves .ensures)
     (c .if1 .left) .1
 
 loop-again : tie.Need-loop-again Inv-loop μ-loop
 loop-again c =
     let called = c .before .before .before .before .before .before .before .before .before in
     let s = called .before .before .before .before .before .before .before .before in
-    round-on _ _ _ (s .pre .0) (s .pre .1) (called .before .before .before .before .loop .inv) _ (called .next-moves .ensures)
+    round-on _ _ _ (s .pre .0) (s .pre .1) (called .before .before .before .before .loop .inv) _
+    (called .next-moves .ensures)
     (c .if1 .left) .0
 
 pub run-rule-spec : {M : Type 1} → statement M

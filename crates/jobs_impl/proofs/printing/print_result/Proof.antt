@@ -15,7 +15,13 @@ put-field-requires : tie.Need-put-field-requires
 put-field-requires c κs =
     let step = c .before .before .before in
     let start = step .before .before .before in
-    omega (arith, length-step (start .args .k), step .put-long-field .ensures .end, step .put-long-field .kept, start .pre)
+    omega (
+      arith,
+      length-step (start .args .k),
+      step .put-long-field .ensures .end,
+      step .put-long-field .kept,
+      start .pre,
+    )
 
 put-field-requires-2 : tie.Need-put-field-requires-2
 put-field-requires-2 c κs =

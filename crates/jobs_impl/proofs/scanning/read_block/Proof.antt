@@ -28,7 +28,8 @@ unfolding fedBytes
 loop-holds c = (zero-le, refl)
 
 -- the step is one of the first 4,096
-kept-below : (c : tie.After-step-of Inv-loop μ-loop) → c .before .before .before .before .before .loop .scan .count < 4096
+kept-below : (c : tie.After-step-of Inv-loop μ-loop) → c .before .before .before .before .before .loop .scan .count <
+    4096
 kept-below c =
     let branch = c .before in
     let row = branch .before .before .before .before .loop .scan .count in

@@ -56,7 +56,8 @@ returns c =
     let A = c .before in
     let N = A .before .before .before in
     let S = N .before .before .before .before in
-    all-lines _ _ _ _ (S .pre .2) (N .print-result-names .ensures) _ (A .loop .k) _ _ (A .loop .inv .0) (c .loop-test .left)
+    all-lines _ _ _ _ (S .pre .2) (N .print-result-names .ensures) _ (A .loop .k) _ _ (A .loop .inv .0)
+    (c .loop-test .left)
     (A .loop .inv .1)
 
 pub print-results-spec : {M : Type 1} → statement M

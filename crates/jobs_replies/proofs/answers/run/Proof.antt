@@ -47,4 +47,5 @@ returns c =
 pub run-spec : {M : Type 1} → statement M
 run-spec =
     tie.close
-    (tie.spec run-steps-requires settle-last-requires (λ c. search needs) (λ c. search needs) (λ c. search needs) returns)
+    (tie.spec run-steps-requires settle-last-requires (λ c. search needs) (λ c. search needs) (λ c. search needs)
+    returns)

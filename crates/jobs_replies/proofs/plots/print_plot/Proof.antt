@@ -1,4 +1,5 @@
--- `print_plot` meets its contract: reduces a list of at most 10 generators and prints its table, or the refusal's number.
+-- `print_plot` meets its contract: reduces a list of at most 10 generators and prints its table, or the refusal's
+-- number.
 use native.Mathlib.Omega.{arith}
 use borrow.Author.Needs.{needs}
 use Rattle.stabilizer.specs.Lists.{GeneratorList}

@@ -73,7 +73,8 @@ single-requires-2 c κs =
 
 single-requires-3 : tie.Need-single-requires-3
 single-requires-3 c κs =
-    let start = c .before .before .before .before .before .before .before .before .before .before .before .before .before
+    let start = c .before .before .before .before .before .before .before .before .before .before .before .before
+    .before
     .pre in
     omega (arith, start .0 .1, unrefused-short _ _ (start .0 .0))
 
@@ -103,7 +104,8 @@ returns-2 c =
     let branch = at-complement .before .before .before in
     let start = branch .before .before .before .before .before .before .pre in (
       complement-nearer _ _ (start .0 .0) _ _ _ (start .0 .1) (at-complement .complement-record .ensures)
-          (complement-less _ _ (start .0 .0) _ (start .0 .1) (start .1) (branch .before .if1 .left) (branch .if2 .taken)),
+          (complement-less _ _ (start .0 .0) _ (start .0 .1) (start .1) (branch .before .if1 .left)
+          (branch .if2 .taken)),
       complement-touches _ _ (start .0 .0) _ _ _ (start .0 .1) _ (c .single3 .ensures)
           (at-complement .complement-record .ensures),
     )

@@ -72,4 +72,5 @@ pub settle-next-spec : {M : Type 1} → statement M
 settle-next-spec =
     tie.close
     (tie.spec (λ c κs. search needs) (λ c. search needs) slice-read-is-unsettled slice-read-is-unsettled-2
-    is-unsettled-requires without-smallest-requires returns settle-at-requires (λ c. search needs) (λ c. search needs) returns-2)
+    is-unsettled-requires without-smallest-requires returns settle-at-requires (λ c. search needs) (λ c. search needs)
+    returns-2)

@@ -16,7 +16,8 @@ same-length c = search needs
 returns : tie.Need-returns
 returns c =
     let begun = c .before .before .before .before .before .before in
-    gate-held _ _ (begun .pre .0) (begun .args .q) (begun .pre .1 .0) (begun .args .k) _ (c .before .before .gate-code .ensures)
+    gate-held _ _ (begun .pre .0) (begun .args .q) (begun .pre .1 .0) (begun .args .k) _
+    (c .before .before .gate-code .ensures)
 
 pub gate-unsettled-spec : {M : Type 1} → statement M
 gate-unsettled-spec = tie.close (tie.spec gate-code-requires same-length returns)

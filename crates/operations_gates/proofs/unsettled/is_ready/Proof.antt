@@ -10,10 +10,12 @@ use Rattle.operations_gates.proofs.unsettled.is_ready.Statement.{statem
 use Rattle.operations_gates.proofs.unsettled.is_ready.Tie as tie
 
 shared-slice-read-first : tie.Need-shared-slice-read-first
-shared-slice-read-first c = unrefused-place _ _ (c .before .before .before .pre .0) _ (c .before .before .before .pre .1 .0)
+shared-slice-read-first c = unrefused-place _ _ (c .before .before .before .pre .0) _
+    (c .before .before .before .pre .1 .0)
 
 shared-slice-read-second : tie.Need-shared-slice-read-second
-shared-slice-read-second c = unrefused-place _ _ (c .before .before .before .before .pre .0) _ (c .before .before .before .before .pre .1 .1)
+shared-slice-read-second c = unrefused-place _ _ (c .before .before .before .before .pre .0) _
+    (c .before .before .before .before .pre .1 .1)
 
 is-crossed-requires : tie.Need-is-crossed-requires
 is-crossed-requires c κs = unrefused-codes _ _ (c .before .before .before .before .pre .0) .1 _
@@ -28,22 +30,30 @@ returns-2 : tie.Need-returns-2
 returns-2 c = λ e. absurd (true≢false (sym e))
 
 c-bit-requires : tie.Need-c-bit-requires
-c-bit-requires c κs = unrefused-codes _ _ (c .before .before .before .before .before .before .before .before .pre .0) .1 _
+c-bit-requires c κs = unrefused-codes _ _ (c .before .before .before .before .before .before .before .before .pre .0) .1
+    _
 
 returns-3 : tie.Need-returns-3
 returns-3 c = λ e.
     let begun = c .before .before .before .before .before .before .before .before .before .before in
-    ready-first _ _ (begun .pre .0) (begun .args .a) (begun .args .b) (sym (c .before .before .before .before .before .is-crossed .ensures) ∙ c .before .before .before .before .if1 .left)
-    (sym (c .before .before .before .is-crossed2 .ensures) ∙ c .before .before .if2 .left) (sym (c .before .c-bit .ensures) ∙ not-true _ (c .if3 .taken))
+    ready-first _ _ (begun .pre .0) (begun .args .a) (begun .args .b)
+    (sym (c .before .before .before .before .before .is-crossed .ensures) ∙
+    c .before .before .before .before .if1 .left)
+    (sym (c .before .before .before .is-crossed2 .ensures) ∙ c .before .before .if2 .left)
+    (sym (c .before .c-bit .ensures) ∙ not-true _ (c .if3 .taken))
 
 c-bit-requires-2 : tie.Need-c-bit-requires-2
-c-bit-requires-2 c κs = unrefused-codes _ _ (c .before .before .before .before .before .before .before .before .before .before .pre .0) .1 _
+c-bit-requires-2 c κs = unrefused-codes _ _
+    (c .before .before .before .before .before .before .before .before .before .before .pre .0) .1 _
 
 returns-4 : tie.Need-returns-4
 returns-4 c = λ e.
     let begun = c .before .before .before .before .before .before .before .before .before .before .before .before in
-    ready-second _ _ (begun .pre .0) (begun .args .a) (begun .args .b) (sym (c .before .before .before .before .before .before .before .is-crossed .ensures) ∙ c .before .before .before .before .before .before .if1 .left)
-    (sym (c .before .before .before .before .before .is-crossed2 .ensures) ∙ c .before .before .before .before .if2 .left) (sym (c .before .c-bit2 .ensures) ∙ not-true _ (c .if4 .taken))
+    ready-second _ _ (begun .pre .0) (begun .args .a) (begun .args .b)
+    (sym (c .before .before .before .before .before .before .before .is-crossed .ensures) ∙
+    c .before .before .before .before .before .before .if1 .left)
+    (sym (c .before .before .before .before .before .is-crossed2 .ensures) ∙
+    c .before .before .before .before .if2 .left) (sym (c .before .c-bit2 .ensures) ∙ not-true _ (c .if4 .taken))
 
 mul-has : tie.Need-mul-has
 mul-has c = search needs
@@ -53,14 +63,19 @@ shared-slice-read-has c = search needs
 
 has-requires : tie.Need-has-requires
 has-requires c κs =
-    let start = c .before .before .before .before .before .before .before .before .before .before .before .before .before .pre in
+    let start = c .before .before .before .before .before .before .before .before .before .before .before .before
+    .before .pre in
     omega (arith, start .1 .1, unrefused-short _ _ (start .0))
 
 returns-5 : tie.Need-returns-5
 returns-5 c = λ e.
-    let begun = c .before .before .before .before .before .before .before .before .before .before .before .before .before .before in
-    ready-parted _ _ (begun .pre .0) (begun .args .a) (begun .args .b) (sym (c .before .before .before .before .before .before .before .before .before .is-crossed .ensures) ∙ c .before .before .before .before .before .before .before .before .if1 .left)
-    (sym (c .before .before .before .before .before .before .before .is-crossed2 .ensures) ∙ c .before .before .before .before .before .before .if2 .left) (sym (c .has .ensures) ∙ not-true _ e)
+    let begun = c .before .before .before .before .before .before .before .before .before .before .before .before
+    .before .before in
+    ready-parted _ _ (begun .pre .0) (begun .args .a) (begun .args .b)
+    (sym (c .before .before .before .before .before .before .before .before .before .is-crossed .ensures) ∙
+    c .before .before .before .before .before .before .before .before .if1 .left)
+    (sym (c .before .before .before .before .before .before .before .is-crossed2 .ensures) ∙
+    c .before .before .before .before .before .before .if2 .left) (sym (c .has .ensures) ∙ not-true _ e)
 
 pub is-ready-spec : {M : Type 1} → statement M
 is-ready-spec =

@@ -14,7 +14,11 @@ same-length-2 : tie.Need-same-length-2
 same-length-2 c = search needs
 
 returns : tie.Need-returns
-returns c = (kept-refl _ _ (c .before .before .before .before .before .before .pre .0), c .before .is-ready .ensures (c .if1 .taken))
+returns c = (
+  kept-refl _ _ (c .before .before .before .before .before .before .pre .0),
+  c .before .is-ready .ensures
+      (c .if1 .taken),
+)
 
 uncross-both-requires : tie.Need-uncross-both-requires
 uncross-both-requires c κs = search needs
@@ -30,8 +34,12 @@ same-length-4 c = search needs
 
 returns-2 : tie.Need-returns-2
 returns-2 c =
-    let P = c .before .before .before .before .part-both .ensures in
-    (kept-trans _ _ _ _ _ _ (c .before .before .before .before .before .before .before .before .before .before .before .uncross-both .ensures) (P .0), P .1)
+    let P = c .before .before .before .before .part-both .ensures in (
+      kept-trans _ _ _ _ _ _
+          (c .before .before .before .before .before .before .before .before .before .before .before .uncross-both
+          .ensures) (P .0),
+      P .1,
+    )
 
 pub make-ready-spec : {M : Type 1} → statement M
 make-ready-spec =

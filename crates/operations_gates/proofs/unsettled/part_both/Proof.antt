@@ -15,7 +15,11 @@ same-length-2 : tie.Need-same-length-2
 same-length-2 c = search needs
 
 returns : tie.Need-returns
-returns c = (kept-refl _ _ (c .before .before .before .before .before .before .pre .0), c .before .is-ready .ensures (c .if1 .taken))
+returns c = (
+  kept-refl _ _ (c .before .before .before .before .before .before .pre .0),
+  c .before .is-ready .ensures
+      (c .if1 .taken),
+)
 
 part-requires : tie.Need-part-requires
 part-requires c κs = search needs
@@ -30,7 +34,10 @@ same-length-4 : tie.Need-same-length-4
 same-length-4 c = search needs
 
 returns-2 : tie.Need-returns-2
-returns-2 c = (c .before .before .before .before .before .before .before .before .part .ensures, c .before .is-ready2 .ensures (c .if2 .taken))
+returns-2 c = (
+  c .before .before .before .before .before .before .before .before .part .ensures,
+  c .before .is-ready2 .ensures (c .if2 .taken),
+)
 
 normalise-requires : tie.Need-normalise-requires
 normalise-requires c κs = search needs
@@ -44,8 +51,10 @@ same-length-6 c = search needs
 returns-3 : tie.Need-returns-3
 returns-3 c =
     let N = c .before .before .before .before .normalise .ensures in
-    let K = c .before .before .before .before .before .before .before .before .before .before .before .before .before .before .before .part .ensures in
-    let begun = c .before .before .before .before .before .before .before .before .before .before .before .before .before .before .before .before .before .before .before .before .before .before .before .before in
+    let K = c .before .before .before .before .before .before .before .before .before .before .before .before .before
+    .before .before .part .ensures in
+    let begun = c .before .before .before .before .before .before .before .before .before .before .before .before
+    .before .before .before .before .before .before .before .before .before .before .before .before in
     (kept-trans _ _ _ _ _ _ K (N .kept), normalised-ready _ _ _ _ _ _ K N _ _ (begun .pre .1 .0) (begun .pre .1 .1))
 
 pub part-both-spec : {M : Type 1} → statement M

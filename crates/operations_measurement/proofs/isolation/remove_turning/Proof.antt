@@ -38,7 +38,8 @@ slice-read-code c =
     let at-smallest = c .before in
     let inside = at-smallest .before in
     let start = inside .before .before .before .before .before .before .before in
-    next-in _ _ _ _ _ (inside .before .loop .inv .1) (unrefused-codes _ _ (start .pre .0) .0) (inside .loop-test .taken) _
+    next-in _ _ _ _ _ (inside .before .loop .inv .1) (unrefused-codes _ _ (start .pre .0) .0) (inside .loop-test .taken)
+    _
     (at-smallest .smallest .ensures .0)
 
 -- a code is below 24
@@ -66,7 +67,8 @@ mul-neighbours c =
     let start = inside .before .before .before .before .before .before .before in
     omega (
       arith,
-      next-short _ _ _ _ _ (inside .before .loop .inv .0) (unrefused-short _ _ (start .pre .0)) (inside .loop-test .taken) _
+      next-short _ _ _ _ _ (inside .before .loop .inv .0) (unrefused-short _ _ (start .pre .0))
+          (inside .loop-test .taken) _
           (at-smallest .smallest .ensures .0),
     )
 
@@ -85,7 +87,8 @@ mul-neighbours-2 c =
     let start = inside .before .before .before .before .before .before .before in
     omega (
       arith,
-      next-short _ _ _ _ _ (inside .before .loop .inv .0) (unrefused-short _ _ (start .pre .0)) (inside .loop-test .taken) _
+      next-short _ _ _ _ _ (inside .before .loop .inv .0) (unrefused-short _ _ (start .pre .0))
+          (inside .loop-test .taken) _
           (at-smallest .smallest .ensures .0),
     )
 
@@ -105,7 +108,8 @@ loop-less c =
     let at-smallest = c .before .before .before in
     let inside = at-smallest .before in
     let start = inside .before .before .before .before .before .before .before in
-    next-less _ _ _ _ _ (inside .before .loop .inv .0) (unrefused-short _ _ (start .pre .0)) (inside .loop-test .taken) _
+    next-less _ _ _ _ _ (inside .before .loop .inv .0) (unrefused-short _ _ (start .pre .0)) (inside .loop-test .taken)
+    _
     (at-smallest .smallest .ensures .0) _
     (dropped-at _ _ _ (c .without-smallest .ensures) (at-smallest .smallest .ensures .0))
 
@@ -139,7 +143,8 @@ returns : tie.Need-returns Inv-loop μ-loop
 returns c =
     let inv = c .before .loop .inv in
     let start = c .before .before .before .before .before .before .before in (
-      leave-end _ (start .args .q) (unrefused-simple _ _ (start .pre .0)) _ _ (inv .0) (c .loop-test .left) (start .pre .1),
+      leave-end _ (start .args .q) (unrefused-simple _ _ (start .pre .0)) _ _ (inv .0) (c .loop-test .left)
+          (start .pre .1),
       put-end _ _ 2 _ _ (inv .1) (c .loop-test .left),
     )
 
@@ -147,6 +152,7 @@ pub remove-turning-spec : {M : Type 1} → statement M
 remove-turning-spec =
     tie.close
     (tie.spec Inv-loop μ-loop single-requires (λ c κs. search needs) (λ c. search needs) (λ c. search needs) loop-holds
-    (λ c κs. search needs) slice-read-code cast-codes array-read-codes slice-write-codes mul-neighbours slice-read-neighbours
+    (λ c κs. search needs) slice-read-code cast-codes array-read-codes slice-write-codes mul-neighbours
+    slice-read-neighbours
     mul-neighbours-2 slice-write-neighbours without-smallest-requires loop-less loop-again (λ c. search needs)
     slice-write-neighbours-2 same-length (λ c. search needs) returns)

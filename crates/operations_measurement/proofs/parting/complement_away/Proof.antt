@@ -40,7 +40,8 @@ slice-read-code c =
     let at-smallest = c .before in
     let inside = at-smallest .before in
     let start = inside .before .before .before .before .before .before .before in
-    next-in _ _ _ _ _ (inside .before .loop .inv .1) (unrefused-codes _ _ (start .pre .0) .0) (inside .loop-test .taken) _
+    next-in _ _ _ _ _ (inside .before .loop .inv .1) (unrefused-codes _ _ (start .pre .0) .0) (inside .loop-test .taken)
+    _
     (at-smallest .smallest .ensures .0)
 
 -- a code is below 24
@@ -63,7 +64,8 @@ slice-write-codes c =
     let at-smallest = c .before in
     let inside = at-smallest .before in
     let start = inside .before .before .before .before .before .before .before in
-    next-in _ _ _ _ _ (inside .before .loop .inv .1) (unrefused-codes _ _ (start .pre .0) .0) (inside .loop-test .taken) _
+    next-in _ _ _ _ _ (inside .before .loop .inv .1) (unrefused-codes _ _ (start .pre .0) .0) (inside .loop-test .taken)
+    _
     (at-smallest .smallest .ensures .0)
 
 mul-neighbours : tie.Need-mul-neighbours Inv-loop μ-loop
@@ -73,7 +75,8 @@ mul-neighbours c =
     let start = inside .before .before .before .before .before .before .before in
     omega (
       arith,
-      next-short _ _ _ _ _ (inside .before .loop .inv .0) (unrefused-short _ _ (start .pre .0)) (inside .loop-test .taken) _
+      next-short _ _ _ _ _ (inside .before .loop .inv .0) (unrefused-short _ _ (start .pre .0))
+          (inside .loop-test .taken) _
           (at-smallest .smallest .ensures .0),
     )
 
@@ -90,7 +93,8 @@ flip-requires c κs =
     let at-smallest = c .before .before in
     let inside = at-smallest .before in
     let start = inside .before .before .before .before .before .before .before in
-    next-short _ _ _ _ _ (inside .before .loop .inv .0) (unrefused-short _ _ (start .pre .0)) (inside .loop-test .taken) _
+    next-short _ _ _ _ _ (inside .before .loop .inv .0) (unrefused-short _ _ (start .pre .0)) (inside .loop-test .taken)
+    _
     (at-smallest .smallest .ensures .0)
 
 mul-neighbours-2 : tie.Need-mul-neighbours-2 Inv-loop μ-loop
@@ -100,7 +104,8 @@ mul-neighbours-2 c =
     let start = inside .before .before .before .before .before .before .before in
     omega (
       arith,
-      next-short _ _ _ _ _ (inside .before .loop .inv .0) (unrefused-short _ _ (start .pre .0)) (inside .loop-test .taken) _
+      next-short _ _ _ _ _ (inside .before .loop .inv .0) (unrefused-short _ _ (start .pre .0))
+          (inside .loop-test .taken) _
           (at-smallest .smallest .ensures .0),
     )
 
@@ -120,7 +125,8 @@ loop-less c =
     let at-smallest = c .before .before .before .before in
     let inside = at-smallest .before in
     let start = inside .before .before .before .before .before .before .before in
-    next-less _ _ _ _ _ (inside .before .loop .inv .0) (unrefused-short _ _ (start .pre .0)) (inside .loop-test .taken) _
+    next-less _ _ _ _ _ (inside .before .loop .inv .0) (unrefused-short _ _ (start .pre .0)) (inside .loop-test .taken)
+    _
     (at-smallest .smallest .ensures .0) _
     (dropped-at _ _ _ (c .without-smallest .ensures) (at-smallest .smallest .ensures .0))
 
@@ -155,7 +161,8 @@ returns : tie.Need-returns Inv-loop μ-loop
 returns c =
     let inv = c .before .loop .inv in
     let start = c .before .before .before .before .before .before .before in (
-      turning-end _ (start .args .q) (unrefused-simple _ _ (start .pre .0)) _ _ (inv .0) (c .loop-test .left) (start .pre .1),
+      turning-end _ (start .args .q) (unrefused-simple _ _ (start .pre .0)) _ _ (inv .0) (c .loop-test .left)
+          (start .pre .1),
       put-end _ _ 6 _ _ (inv .1) (c .loop-test .left),
     )
 

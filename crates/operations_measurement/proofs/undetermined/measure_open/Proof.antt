@@ -53,7 +53,8 @@ returns-3 c =
     let first = at-sends2 .before .before in
     let begun = first .before .before .before .before .before in
     measured-letter
-    (third-by-calls (codesOf (begun .args .codes .now) (begun .args .q)) (begun .args .l) (begun .pre .1 .1) (first .before .sends .ensures) (first .if1 .left)
+    (third-by-calls (codesOf (begun .args .codes .now) (begun .args .q)) (begun .args .l) (begun .pre .1 .1)
+    (first .before .sends .ensures) (first .if1 .left)
     (at-sends2 .sends2 .ensures) (branch .if2 .left))
     (at-y .measure-y .ensures)
 

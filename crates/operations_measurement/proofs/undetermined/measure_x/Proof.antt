@@ -20,7 +20,8 @@ turn-parted-requires c κs =
     let begun = at-largest .before .before .before .before in
     let start = begun .pre .0 in
     let known = at-pivot .pivot-parted .ensures in
-    pivot-asks _ _ (start .0) (begun .args .q) (at-largest .largest .result) (start .1) (at-largest .largest .ensures .0) _ _
+    pivot-asks _ _ (start .0) (begun .args .q) (at-largest .largest .result) (start .1)
+    (at-largest .largest .ensures .0) _ _
     (known .1 .0) (known .1 .1)
 
 returns : tie.Need-returns

@@ -19,7 +19,8 @@ returns c =
     let begun = at-complement .before .before .before .before .before in
     let start = begun .pre in
     let known = at-complement .complement-parted .ensures in
-    complement-measured _ _ (start .0) (begun .args .q) (start .1) _ _ (known .1 .0) (known .1 .1) (begun .args .outcome) _ _
+    complement-measured _ _ (start .0) (begun .args .q) (start .1) _ _ (known .1 .0) (known .1 .1)
+    (begun .args .outcome) _ _
     (at-complement .complement-parted .kept .0) (known .0) (at-turn .turn-parted .ensures)
 
 pub measure-y-spec : {M : Type 1} → statement M

@@ -17,7 +17,8 @@ returns c =
     let at-isolate = c .before .before .before .before in
     let begun = at-isolate .before .before .before .before .before .before in
     let start = begun .pre in
-    measured-open _ _ (start .0) (begun .args .q) (start .1) _ _ _ (brought-already _ _ (start .0) (begun .args .q) (start .1))
+    measured-open _ _ (start .0) (begun .args .q) (start .1) _ _ _
+    (brought-already _ _ (start .0) (begun .args .q) (start .1))
     (begun .args .outcome) _ _ _ refl (at-isolate .isolate .ensures)
 
 pub measure-z-spec : {M : Type 1} → statement M

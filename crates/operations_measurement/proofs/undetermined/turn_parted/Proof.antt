@@ -24,7 +24,8 @@ returns c =
     let at-where = at-put .before in
     let at-hadamard = at-where .before .before in
     let begun = at-hadamard .before .before .before in
-    turned-by-calls (begun .args .codes .now) (begun .args .q) (begun .args .outcome) (begun .args .near) _ _ _ (begun .pre .1 .1)
+    turned-by-calls (begun .args .codes .now) (begun .args .q) (begun .args .outcome) (begun .args .near) _ _ _
+    (begun .pre .1 .1)
     (at-where .where-true .ensures) (at-put .put-before .ensures) (at-hadamard .with-hadamard .ensures)
 
 pub turn-parted-spec : {M : Type 1} → statement M

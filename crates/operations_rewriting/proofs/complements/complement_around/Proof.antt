@@ -33,7 +33,8 @@ slice-read-code c =
     let at-smallest = c .before in
     let inside = at-smallest .before in
     let start = inside .before .before .before .before .before .before in
-    next-in _ _ _ _ _ (inside .before .loop .inv .1) (unrefused-codes _ _ (start .pre .0) .0) (inside .loop-test .taken) _
+    next-in _ _ _ _ _ (inside .before .loop .inv .1) (unrefused-codes _ _ (start .pre .0) .0) (inside .loop-test .taken)
+    _
     (at-smallest .smallest .ensures .0)
 
 -- a code is below 24
@@ -56,7 +57,8 @@ slice-write-codes c =
     let at-smallest = c .before in
     let inside = at-smallest .before in
     let start = inside .before .before .before .before .before .before in
-    next-in _ _ _ _ _ (inside .before .loop .inv .1) (unrefused-codes _ _ (start .pre .0) .0) (inside .loop-test .taken) _
+    next-in _ _ _ _ _ (inside .before .loop .inv .1) (unrefused-codes _ _ (start .pre .0) .0) (inside .loop-test .taken)
+    _
     (at-smallest .smallest .ensures .0)
 
 mul-neighbours : tie.Need-mul-neighbours Inv-loop μ-loop
@@ -66,7 +68,8 @@ mul-neighbours c =
     let start = inside .before .before .before .before .before .before in
     omega (
       arith,
-      next-short _ _ _ _ _ (inside .before .loop .inv .0) (unrefused-short _ _ (start .pre .0)) (inside .loop-test .taken) _
+      next-short _ _ _ _ _ (inside .before .loop .inv .0) (unrefused-short _ _ (start .pre .0))
+          (inside .loop-test .taken) _
           (at-smallest .smallest .ensures .0),
     )
 
@@ -83,7 +86,8 @@ flip-requires c κs =
     let at-smallest = c .before .before in
     let inside = at-smallest .before in
     let start = inside .before .before .before .before .before .before in
-    next-short _ _ _ _ _ (inside .before .loop .inv .0) (unrefused-short _ _ (start .pre .0)) (inside .loop-test .taken) _
+    next-short _ _ _ _ _ (inside .before .loop .inv .0) (unrefused-short _ _ (start .pre .0)) (inside .loop-test .taken)
+    _
     (at-smallest .smallest .ensures .0)
 
 mul-neighbours-2 : tie.Need-mul-neighbours-2 Inv-loop μ-loop
@@ -93,7 +97,8 @@ mul-neighbours-2 c =
     let start = inside .before .before .before .before .before .before in
     omega (
       arith,
-      next-short _ _ _ _ _ (inside .before .loop .inv .0) (unrefused-short _ _ (start .pre .0)) (inside .loop-test .taken) _
+      next-short _ _ _ _ _ (inside .before .loop .inv .0) (unrefused-short _ _ (start .pre .0))
+          (inside .loop-test .taken) _
           (at-smallest .smallest .ensures .0),
     )
 
@@ -113,7 +118,8 @@ loop-less c =
     let at-smallest = c .before .before .before .before in
     let inside = at-smallest .before in
     let start = inside .before .before .before .before .before .before in
-    next-less _ _ _ _ _ (inside .before .loop .inv .0) (unrefused-short _ _ (start .pre .0)) (inside .loop-test .taken) _
+    next-less _ _ _ _ _ (inside .before .loop .inv .0) (unrefused-short _ _ (start .pre .0)) (inside .loop-test .taken)
+    _
     (at-smallest .smallest .ensures .0) _
     (dropped-at _ _ _ (c .without-smallest .ensures) (at-smallest .smallest .ensures .0))
 

@@ -63,7 +63,8 @@ loop-again c =
     let row = inside .before .before in
     let start = row .before .before in
     put-more _ (start .args .word) (start .args .k) _ _ (inside .before .loop .inv) (start .pre .0 .0)
-    (inside .loop-test .taken) _ (at-smallest .smallest .ensures .0) _ _ (row .before-each .ensures _ (small at-smallest))
+    (inside .loop-test .taken) _ (at-smallest .smallest .ensures .0) _ _
+    (row .before-each .ensures _ (small at-smallest))
     (dropped-at _ _ _ (c .without-smallest .ensures) (at-smallest .smallest .ensures .0))
 
 returns : tie.Need-returns Inv-loop μ-loop

@@ -49,4 +49,5 @@ returns c =
 pub join-turning-spec : {M : Type 1} → statement M
 join-turning-spec =
     tie.close
-    (tie.spec turn-rows-requires turn-rows-requires-2 turn-rows-requires-3 (λ c. search needs) (λ c. search needs) returns)
+    (tie.spec turn-rows-requires turn-rows-requires-2 turn-rows-requires-3 (λ c. search needs) (λ c. search needs)
+    returns)

@@ -33,7 +33,8 @@ put-bit-requires c κs =
 
 next-pair-requires : tie.Need-next-pair-requires Inv-loop μ-loop
 next-pair-requires c κs =
-    let P = this-pair (c .before .before .before .before .loop .inv .at) (c .before .before .before .loop-test .taken) in
+    let P = this-pair (c .before .before .before .before .loop .inv .at) (c .before .before .before .loop-test .taken)
+    in
     (omega arith, omega arith)
 
 loop-again : tie.Need-loop-again Inv-loop μ-loop

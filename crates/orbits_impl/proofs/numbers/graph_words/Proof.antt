@@ -34,7 +34,13 @@ set-where-requires c κs =
 
 mul-words : tie.Need-mul-words Inv-loop μ-loop
 mul-words c =
-    record { fits = omega (arith, this-pair (c .before .before .before .loop .inv .at) (c .before .before .loop-test .taken)) }
+    record {
+      fits = omega (
+        arith,
+        this-pair (c .before .before .before .loop .inv .at)
+            (c .before .before .loop-test .taken),
+      );
+    }
 
 array-write-words : tie.Need-array-write-words Inv-loop μ-loop
 array-write-words c =
@@ -42,7 +48,13 @@ array-write-words c =
 
 mul-set-where-2 : tie.Need-mul-set-where-2 Inv-loop μ-loop
 mul-set-where-2 c =
-    record { fits = omega (arith, this-pair (c .before .before .before .loop .inv .at) (c .before .before .loop-test .taken)) }
+    record {
+      fits = omega (
+        arith,
+        this-pair (c .before .before .before .loop .inv .at)
+            (c .before .before .loop-test .taken),
+      );
+    }
 
 array-read-set-where-2 : tie.Need-array-read-set-where-2 Inv-loop μ-loop
 array-read-set-where-2 c =
@@ -54,15 +66,26 @@ set-where-requires-2 c κs =
 
 mul-words-2 : tie.Need-mul-words-2 Inv-loop μ-loop
 mul-words-2 c =
-    record { fits = omega (arith, this-pair (c .before .before .before .before .loop .inv .at) (c .before .before .before .loop-test .taken)) }
+    record {
+      fits = omega (
+        arith,
+        this-pair (c .before .before .before .before .loop .inv .at)
+            (c .before .before .before .loop-test .taken),
+      );
+    }
 
 array-write-words-2 : tie.Need-array-write-words-2 Inv-loop μ-loop
 array-write-words-2 c =
-    omega (arith, this-pair (c .before .before .before .before .loop .inv .at) (c .before .before .before .loop-test .taken))
+    omega (
+      arith,
+      this-pair (c .before .before .before .before .loop .inv .at)
+          (c .before .before .before .loop-test .taken),
+    )
 
 next-pair-requires : tie.Need-next-pair-requires Inv-loop μ-loop
 next-pair-requires c κs =
-    let P = this-pair (c .before .before .before .before .loop .inv .at) (c .before .before .before .loop-test .taken) in
+    let P = this-pair (c .before .before .before .before .loop .inv .at) (c .before .before .before .loop-test .taken)
+    in
     (omega arith, omega arith)
 
 loop-again : tie.Need-loop-again Inv-loop μ-loop

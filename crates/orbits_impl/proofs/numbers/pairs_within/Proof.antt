@@ -32,14 +32,16 @@ put-bit-requires c κs =
 
 next-pair-requires : tie.Need-next-pair-requires Inv-loop μ-loop
 next-pair-requires c κs =
-    let P = this-pair (c .before .before .before .before .loop .inv .at) (c .before .before .before .loop-test .taken) in
+    let P = this-pair (c .before .before .before .before .loop .inv .at) (c .before .before .before .loop-test .taken)
+    in
     (omega arith, omega arith)
 
 loop-again : tie.Need-loop-again Inv-loop μ-loop
 loop-again c =
     let T = c .before .before in
     let L = T .before .before in
-    one-numbered _ (L .before .loop .inv) (L .loop-test .taken) _ (ap₂ _&&_ (T .before .has .ensures) (T .has2 .ensures)) _
+    one-numbered _ (L .before .loop .inv) (L .loop-test .taken) _
+    (ap₂ _&&_ (T .before .has .ensures) (T .has2 .ensures)) _
     (c .before .put-bit .ensures) _ (c .next-pair .ensures)
 
 returns : tie.Need-returns Inv-loop μ-loop

@@ -24,11 +24,19 @@ loop-holds c = emit-start _ _ _ _ (search needs)
 
 add-list : tie.Need-add-list Inv-loop μ-loop
 add-list c =
-    omega (arith, first-small _ (c .before .before .loop .inv .small) (c .before .loop-test .taken) _ (c .smallest .ensures .0))
+    omega (
+      arith,
+      first-small _ (c .before .before .loop .inv .small) (c .before .loop-test .taken) _
+          (c .smallest .ensures .0),
+    )
 
 cast-list : tie.Need-cast-list Inv-loop μ-loop
 cast-list c =
-    omega (arith, first-small _ (c .before .before .loop .inv .small) (c .before .loop-test .taken) _ (c .smallest .ensures .0))
+    omega (
+      arith,
+      first-small _ (c .before .before .loop .inv .small) (c .before .loop-test .taken) _
+          (c .smallest .ensures .0),
+    )
 
 mul-list : tie.Need-mul-list Inv-loop μ-loop
 mul-list c = record {

@@ -1,4 +1,5 @@
--- `change` meets its contract: generator g goes into the others that do not commute with the row, which takes its place.
+-- `change` meets its contract: generator g goes into the others that do not commute with the row, which takes its
+-- place.
 use mathlib.Core.Path.{_∙_, ap, subst, sym}
 use Prim.Native.Nat.{_-_, _<_}
 use native.Mathlib.Omega.{arith}
@@ -19,7 +20,8 @@ abbrev μ-loop : tie.MeasureT-loop
 μ-loop signs₀ zs₀ xs₀ z x minus g by j₀ signs zs xs j = length signs₀ - j
 
 slice-read-t18 : tie.Need-slice-read-t18 Inv-loop μ-loop
-slice-read-t18 c = let S = c .before .before .before .before .before in subst (λ m. S .args .g < m) (sym (S .pre .0 .0)) (S .pre .0 .2)
+slice-read-t18 c = let S = c .before .before .before .before .before in subst (λ m. S .args .g < m) (sym (S .pre .0 .0))
+    (S .pre .0 .2)
 
 slice-read-t21 : tie.Need-slice-read-t21 Inv-loop μ-loop
 slice-read-t21 c = let S = c .before .before .before .before .before .before in
@@ -32,13 +34,15 @@ loop-holds c = none-changed _ _ _ _
 z-place : (c : tie.In-loop Inv-loop μ-loop) → c .before .loop .j < length (c .before .loop .zs)
 z-place c =
     let S = c .before .before .before .before .before .before .before .before in
-    subst (λ m. c .before .loop .j < m) (sym (z-long _ _ _ _ (S .pre .0 .0) (S .pre .0 .1) _ _ _ _ (c .before .loop .inv)))
+    subst (λ m. c .before .loop .j < m) (sym (z-long _ _ _ _ (S .pre .0 .0) (S .pre .0 .1) _ _ _ _
+    (c .before .loop .inv)))
     (c .loop-test .taken)
 
 x-place : (c : tie.In-loop Inv-loop μ-loop) → c .before .loop .j < length (c .before .loop .xs)
 x-place c =
     let S = c .before .before .before .before .before .before .before .before in
-    subst (λ m. c .before .loop .j < m) (sym (x-long _ _ _ _ (S .pre .0 .0) (S .pre .0 .1) _ _ _ _ (c .before .loop .inv)))
+    subst (λ m. c .before .loop .j < m) (sym (x-long _ _ _ _ (S .pre .0 .0) (S .pre .0 .1) _ _ _ _
+    (c .before .loop .inv)))
     (c .loop-test .taken)
 
 cleared-requires : tie.Need-cleared-requires Inv-loop μ-loop

@@ -1,4 +1,5 @@
--- `cleared` meets its contract: a generator, times another that commutes with it where it does not commute with the row.
+-- `cleared` meets its contract: a generator, times another that commutes with it where it does not commute with the
+-- row.
 use mathlib.Core.Path.{_∙_, sym}
 use borrow.Author.Needs.{needs}
 use borrow.Author.Tests.{not-false, not-true}
@@ -25,7 +26,8 @@ returns-2 c =
     let E = M .before in
     let S = E .before .before in
     let a = S .args in
-    multiplied (a .own) (a .by) (a .z) (a .x) (sym (E .before .clashes .ensures) ∙ not-false _ (E .if1 .left)) _ (M .letters-minus .ensures)
+    multiplied (a .own) (a .by) (a .z) (a .x) (sym (E .before .clashes .ensures) ∙ not-false _ (E .if1 .left)) _
+    (M .letters-minus .ensures)
 
 pub cleared-spec : {M : Type 1} → statement M
 cleared-spec = tie.close (tie.spec (λ c κs. search needs) returns letters-minus-requires returns-2)

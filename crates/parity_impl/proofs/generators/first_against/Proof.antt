@@ -26,7 +26,8 @@ returns : tie.Need-returns Inv-loop μ-loop
 returns c =
     let T = c .before .before .before .before in
     let l = T .before in
-    first-found _ (l .loop .j) (l .loop .inv) _ (T .loop-test .taken) (sym (c .before .clashes .ensures) ∙ c .if1 .taken)
+    first-found _ (l .loop .j) (l .loop .inv) _ (T .loop-test .taken)
+    (sym (c .before .clashes .ensures) ∙ c .if1 .taken)
 
 loop-again : tie.Need-loop-again Inv-loop μ-loop
 loop-again c =

@@ -73,7 +73,8 @@ returns c =
     let S = at E in
     let a = S .args in
     let e = E .expand-into .ensures in
-    let w = reduced-written (lent S) (held S) (a .z) (a .x) (S .pre .1 .0 .0) (S .pre .1 .0 .1) (S .pre .1 .1 .0) (a .bit)
+    let w = reduced-written (lent S) (held S) (a .z) (a .x) (S .pre .1 .0 .0) (S .pre .1 .0 .1) (S .pre .1 .1 .0)
+    (a .bit)
     _ _ _ (e .0) (e .1 .0) (e .1 .1) _ (F .first-against .ensures) _ _ _ (C .change .ensures) _ _ _ _ _
     (R .reduce-list .ensures .0) (R .reduce-list .ensures .1 .0) (R .reduce-list .ensures .1 .1) in
     record { neighbours = w .0; numbers = w .1 }

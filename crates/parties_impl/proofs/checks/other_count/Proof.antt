@@ -37,7 +37,8 @@ count-here W =
     let a = E .before .before .args in
     let i = W .before .before .loop .i in
     W .word-at .ensures
-    ∙ sym (own-head (a .party) (a .heads .now) (3 * i) (omega (arith, E .if1 .left)) (omega (arith, W .before .loop-test .taken)))
+    ∙ sym (own-head (a .party) (a .heads .now) (3 * i) (omega (arith, E .if1 .left))
+    (omega (arith, W .before .loop-test .taken)))
 
 returns-2 : tie.Need-returns-2 Inv-loop μ-loop
 returns-2 c =

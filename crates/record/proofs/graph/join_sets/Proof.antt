@@ -93,5 +93,6 @@ pub join-sets-spec : {M : Type 1} → statement M
 join-sets-spec =
     tie.close
     (tie.spec Inv-loop μ-loop loop-holds (λ c κs. search needs) mul-joined-word slice-read-joined-word
-    joined-word-requires mul-neighbours slice-write-neighbours without-smallest-requires loop-less loop-again (λ c. search needs)
+    joined-word-requires mul-neighbours slice-write-neighbours without-smallest-requires loop-less loop-again
+    (λ c. search needs)
     returns)

@@ -29,7 +29,8 @@ then-requires c κs = (plain-lt (c .before .args .y) (c .before .args .minus), l
 returns-2 : tie.Need-returns-2
 returns-2 c =
     let a = c .before .before .args in
-    turned-vertex (a .hadamard) (a .y) (a .minus) _ (not-false _ (c .before .if1 .left)) (c .then .ensures .0) (c .then .ensures .1)
+    turned-vertex (a .hadamard) (a .y) (a .minus) _ (not-false _ (c .before .if1 .left)) (c .then .ensures .0)
+    (c .then .ensures .1)
 
 pub vertex-code-spec : {M : Type 1} → statement M
 vertex-code-spec =

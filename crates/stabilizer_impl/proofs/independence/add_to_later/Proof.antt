@@ -24,8 +24,11 @@ loop-again c =
     let L = c .before .before .before .before .before .before in
     let S = L .before .before .before in
     let a = S .args in
-    adding-step (a .n) (a .k) (a .in-x) (a .i) (a .z .now) (a .x .now) (L .loop .z) (L .loop .x) (L .loop .j) (L .loop .inv)
-    (c .before .before .before .before .before .loop-test .taken) (omega (arith, S .pre .0 .0)) (omega (arith, S .pre .0 .1)) (c .before .before .chosen-word .result) (c .before .before .chosen-word .ensures) _ _ _ _ refl refl
+    adding-step (a .n) (a .k) (a .in-x) (a .i) (a .z .now) (a .x .now) (L .loop .z) (L .loop .x) (L .loop .j)
+    (L .loop .inv)
+    (c .before .before .before .before .before .loop-test .taken) (omega (arith, S .pre .0 .0))
+    (omega (arith, S .pre .0 .1)) (c .before .before .chosen-word .result) (c .before .before .chosen-word .ensures)
+    _ _ _ _ refl refl
     (c .before .by-bit .ensures) (c .by-bit2 .ensures)
 
 returns : tie.Need-returns Inv-loop μ-loop

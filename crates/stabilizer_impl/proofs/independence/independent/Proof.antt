@@ -23,8 +23,10 @@ loop-holds : tie.Need-loop-holds Inv-loop μ-loop
 loop-holds c =
     let S = c .before .before .before .before in
     let a = S .args in
-    pivoted-start (a .n) (a .z .now) (a .x .now) (c .before .copied-words .result) (c .copied-words2 .result) (S .pre .0 .1) (S .pre .0 .2)
-    (c .before .copied-words .ok .1 .0 .1) (c .copied-words2 .ok .1 .0 .1) (c .before .copied-words .ensures) (c .copied-words2 .ensures) (S .pre .1)
+    pivoted-start (a .n) (a .z .now) (a .x .now) (c .before .copied-words .result) (c .copied-words2 .result)
+    (S .pre .0 .1) (S .pre .0 .2)
+    (c .before .copied-words .ok .1 .0 .1) (c .copied-words2 .ok .1 .0 .1) (c .before .copied-words .ensures)
+    (c .copied-words2 .ensures) (S .pre .1)
 
 returns : tie.Need-returns Inv-loop μ-loop
 returns c =
@@ -45,7 +47,8 @@ add-to-later-requires c κs =
       (
         S .pre .0 .0,
         I .loop-test .taken,
-        place-below (a .n) (lettersOf (a .z .now) (a .x .now)) (L .loop .own-z) (L .loop .own-x) (L .loop .k) (L .loop .inv)
+        place-below (a .n) (lettersOf (a .z .now) (a .x .now)) (L .loop .own-z) (L .loop .own-x) (L .loop .k)
+            (L .loop .inv)
             (I .loop-test .taken) _ (C .chosen-word .ensures) (S .pre .0 .0) (c .before .before .before .if1 .left) _
             (c .smallest .ensures .0),
       ),
@@ -59,7 +62,8 @@ loop-again c =
     let L = I .before in
     let S = L .before .before .before .before .before in
     let a = S .args in
-    pivoted-next (a .n) (lettersOf (a .z .now) (a .x .now)) (L .loop .own-z) (L .loop .own-x) (L .loop .k) (L .loop .inv)
+    pivoted-next (a .n) (lettersOf (a .z .now) (a .x .now)) (L .loop .own-z) (L .loop .own-x) (L .loop .k)
+    (L .loop .inv)
     (I .loop-test .taken) _ (C .chosen-word .ensures) (S .pre .0 .0)
     (T .before .before .before .if1 .left) _ (T .smallest .ensures .0) _ _ (c .add-to-later .ensures)
 

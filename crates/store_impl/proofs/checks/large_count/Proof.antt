@@ -41,5 +41,6 @@ returns-2 c = no-some _ _ (c .before .loop .inv .1) _ (c .loop-test .left)
 pub large-count-spec : {M : Type 1} → statement M
 large-count-spec =
     tie.close
-    (tie.spec Inv-loop μ-loop loop-holds mul-word-at (λ c κs. search needs) returns (λ c. search needs) (λ c. search needs)
+    (tie.spec Inv-loop μ-loop loop-holds mul-word-at (λ c κs. search needs) returns (λ c. search needs)
+    (λ c. search needs)
     loop-again returns-2)

@@ -34,9 +34,12 @@ mul-word-at-2 c = omega (arith, c .before .before .before .before .before .pre)
 -- the test at place i
 twice-here : (W : tie.After-word-at2 Inv-loop μ-loop)
     → (not (eqb (W .word-at2 .result) 0) && ltb (W .before .find .result) (W .before .before .before .before .loop .i))
-    ≡ (isHeld (W .before .before .before .before .before .before .args .heads .now) (W .before .before .before .before .loop .i)
-    && holdsName (W .before .before .before .before .loop .i) (W .before .before .before .before .before .before .args .heads .now)
-    (nameAt (W .before .before .before .before .before .before .args .heads .now) (W .before .before .before .before .loop .i)))
+    ≡ (isHeld (W .before .before .before .before .before .before .args .heads .now)
+    (W .before .before .before .before .loop .i)
+    && holdsName (W .before .before .before .before .loop .i)
+    (W .before .before .before .before .before .before .args .heads .now)
+    (nameAt (W .before .before .before .before .before .before .args .heads .now)
+    (W .before .before .before .before .loop .i)))
 twice-here W =
     let F = W .before in
     let i = F .before .before .before .loop .i in

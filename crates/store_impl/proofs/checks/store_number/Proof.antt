@@ -90,7 +90,8 @@ loop-again c =
     let i = I .before .loop .i in
     place-passed _ (lent S) _ _ (I .before .loop .inv) _ _ _ _ (I .loop-test .taken)
     (place-small _ (lent S) (S .pre .0 .1) _ _ (I .loop-test .taken) (W .word-at .ensures))
-    (W .word-at .ensures) (U .word-at2 .ensures) (place-part i (S .args .neighbours .now)) (place-part i (S .args .codes .now)) _ (H .held-number .ensures) _
+    (W .word-at .ensures) (U .word-at2 .ensures) (place-part i (S .args .neighbours .now))
+    (place-part i (S .args .codes .now)) _ (H .held-number .ensures) _
     (c .earlier .ensures)
 
 returns : tie.Need-returns Inv-loop μ-loop
@@ -99,7 +100,8 @@ returns c = all-passed _ _ _ _ (c .before .loop .inv) (c .loop-test .left)
 pub store-number-spec : {M : Type 1} → statement M
 store-number-spec =
     tie.close
-    (tie.spec Inv-loop μ-loop loop-holds mul-word-at (λ c κs. search needs) mul-word-at-2 add-word-at (λ c κs. search needs)
+    (tie.spec Inv-loop μ-loop loop-holds mul-word-at (λ c κs. search needs) mul-word-at-2 add-word-at
+    (λ c κs. search needs)
     mul-at add-end mul-held-number sub-held-number part-held-number-start part-held-number-end sub-held-number-2
     part-held-number-start-2 part-held-number-end-2 held-number-requires (λ c κs. search needs) (λ c. search needs)
     (λ c. search needs) loop-again returns)

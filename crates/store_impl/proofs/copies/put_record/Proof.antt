@@ -9,8 +9,10 @@ returns : tie.Need-returns
 returns c =
     let C = c .before .before .before .before in
     let S = C .before .before .before .before .before .before .before in (
-      placed (S .args .i) _ (S .args .neighbours .now) _ (S .args .held-neighbours .now) refl (C .copy-record .ensures .0),
-      placed (S .args .i) _ (S .args .codes .now) _ (S .args .held-codes .now) (S .pre .0 .1) (C .copy-record .ensures .1),
+      placed (S .args .i) _ (S .args .neighbours .now) _ (S .args .held-neighbours .now) refl
+          (C .copy-record .ensures .0),
+      placed (S .args .i) _ (S .args .codes .now) _ (S .args .held-codes .now) (S .pre .0 .1)
+          (C .copy-record .ensures .1),
     )
 
 pub put-record-spec : {M : Type 1} → statement M

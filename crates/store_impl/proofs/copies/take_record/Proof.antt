@@ -31,7 +31,8 @@ returns : tie.Need-returns
 returns c =
     let C = c .before .before .before .before in
     let S = C .before .before .before .before .before .before .before .before .before in (
-      taken-out _ _ (S .args .held-neighbours .now) _ (S .args .neighbours .now) (S .pre .1 .0) (C .copy-record .ensures .0),
+      taken-out _ _ (S .args .held-neighbours .now) _ (S .args .neighbours .now) (S .pre .1 .0)
+          (C .copy-record .ensures .0),
       taken-out _ _ (S .args .held-codes .now) _ (S .args .codes .now) (S .pre .1 .1) (C .copy-record .ensures .1),
     )
 

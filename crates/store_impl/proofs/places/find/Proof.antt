@@ -23,7 +23,8 @@ has-name-requires c κs = omega (arith, c .before .before .before .pre)
 returns : tie.Need-returns Inv-loop μ-loop
 returns c =
     let at = c .before .before .before in
-    first-found _ _ (at .loop .inv .1) _ (c .before .before .loop-test .taken) (sym (c .before .has-name .ensures) ∙ c .if1 .taken)
+    first-found _ _ (at .loop .inv .1) _ (c .before .before .loop-test .taken)
+    (sym (c .before .has-name .ensures) ∙ c .if1 .taken)
 
 loop-again : tie.Need-loop-again Inv-loop μ-loop
 loop-again c =
@@ -38,4 +39,5 @@ returns-2 c = none-found _ _ (c .before .loop .inv .1) _ (c .loop-test .left)
 pub find-spec : {M : Type 1} → statement M
 find-spec =
     tie.close
-    (tie.spec Inv-loop μ-loop loop-holds has-name-requires returns (λ c. search needs) (λ c. search needs) loop-again returns-2)
+    (tie.spec Inv-loop μ-loop loop-holds has-name-requires returns (λ c. search needs) (λ c. search needs) loop-again
+    returns-2)

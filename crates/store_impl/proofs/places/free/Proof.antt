@@ -24,7 +24,8 @@ is-free-requires c κs = omega (arith, c .before .before .before .pre)
 returns : tie.Need-returns Inv-loop μ-loop
 returns c =
     let at = c .before .before .before in
-    first-found _ _ (at .loop .inv .1) _ (c .before .before .loop-test .taken) (sym (c .before .is-free .ensures) ∙ c .if1 .taken)
+    first-found _ _ (at .loop .inv .1) _ (c .before .before .loop-test .taken)
+    (sym (c .before .is-free .ensures) ∙ c .if1 .taken)
 
 loop-again : tie.Need-loop-again Inv-loop μ-loop
 loop-again c =
@@ -39,4 +40,5 @@ returns-2 c = none-found _ _ (c .before .loop .inv .1) _ (c .loop-test .left)
 pub free-spec : {M : Type 1} → statement M
 free-spec =
     tie.close
-    (tie.spec Inv-loop μ-loop loop-holds is-free-requires returns (λ c. search needs) (λ c. search needs) loop-again returns-2)
+    (tie.spec Inv-loop μ-loop loop-holds is-free-requires returns (λ c. search needs) (λ c. search needs) loop-again
+    returns-2)

@@ -55,7 +55,8 @@ loop-again c =
     let l = marked .before .before .before .before in
     let names = l .before .before .before in
     let start = names .before .before .before .before .before .before in
-    let lines = length-lines (l .loop .q) (start .args .neighbours .now) (start .args .codes .now) (start .args .used) in (
+    let lines = length-lines (l .loop .q) (start .args .neighbours .now) (start .args .codes .now) (start .args .used)
+    in (
       search needs,
       subst (λ k. Printed (qubitLines k (start .args .neighbours .now) (start .args .codes .now) (start .args .used))
           (names .put-bytes .result) (names .put-bytes .last .1 .1 .0)

@@ -15,14 +15,21 @@ put-requires : tie.Need-put-requires
 put-requires c κs =
     let N = c .before .before .before in
     let S = N .before .before .before in
-    omega (arith, S .pre, word-places (S .args .q) (S .fits .q .fits), N .put-numeral .ensures .end, N .put-numeral .kept)
+    omega (
+      arith,
+      S .pre,
+      word-places (S .args .q) (S .fits .q .fits),
+      N .put-numeral .ensures .end,
+      N .put-numeral .kept,
+    )
 
 returns : tie.Need-returns
 returns c =
     let P = c .before .before in
     let N = P .before .before .before .before in
     let S = N .before .before .before in
-    and-then (omega (arith, S .pre, word-places (S .args .q) (S .fits .q .fits))) (N .put-numeral .ensures) (P .put .ensures)
+    and-then (omega (arith, S .pre, word-places (S .args .q) (S .fits .q .fits))) (N .put-numeral .ensures)
+    (P .put .ensures)
 
 pub print-number-spec : {M : Type 1} → statement M
 print-number-spec = tie.close (tie.spec put-numeral-requires put-requires (λ c. search needs) returns)

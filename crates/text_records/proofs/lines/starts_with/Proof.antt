@@ -34,7 +34,8 @@ returns-2 c =
     ((λ e. absurd (false≢true e)), (λ _. byte-differs _ _ _ (S .pre) (l .loop-test .taken) (c .if2 .taken)))
 
 loop-again : tie.Need-loop-again Inv-loop μ-loop
-loop-again c = let l = c .before .before .before in one-compared _ _ _ (l .before .loop .inv) (l .loop-test .taken) (c .if2 .left)
+loop-again c = let l = c .before .before .before in one-compared _ _ _ (l .before .loop .inv) (l .loop-test .taken)
+    (c .if2 .left)
 
 returns-3 : tie.Need-returns-3 Inv-loop μ-loop
 returns-3 c =

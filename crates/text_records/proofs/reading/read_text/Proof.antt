@@ -34,7 +34,8 @@ abbrev text : tie.After-starts-with Inv-loop μ-loop → List ℕ
 text S = S .before .before .before .args .text .now
 
 abbrev followed : (A : tie.At-loop Inv-loop μ-loop) →
-    Followed (text (A .before .before)) (A .loop .neighbours) (A .loop .codes) (A .loop .used) (A .loop .count) (A .loop .at)
+    Followed (text (A .before .before)) (A .loop .neighbours) (A .loop .codes) (A .loop .used) (A .loop .count)
+    (A .loop .at)
 followed A = A .loop .inv
 
 told : (R : tie.After-read-line Inv-loop μ-loop) → let A = R .before .before .before in

@@ -14,7 +14,8 @@ whole high half l h = shl-exact {a = high} 32 half 64 h (omega arith)
 add-result : tie.Need-add-result
 add-result c =
     record {
-      fits = subst (λ v. c .args .low + v < 2 ^ 64) (sym (whole (c .args .high) (c .args .half) (c .pre .0) (c .pre .1)))
+      fits = subst (λ v. c .args .low + v < 2 ^ 64) (sym (whole (c .args .high) (c .args .half) (c .pre .0)
+          (c .pre .1)))
           (c .pre .2);
     }
 

@@ -8,7 +8,8 @@ use Rattle.text_strings.proofs.scanning.odd_letter.Tie as tie
 letter-bits-requires : tie.Need-letter-bits-requires
 letter-bits-requires c κs =
     let s = c .before .before .before in
-    letter-fit (s .args .text .now) (s .args .from) (s .args .n) (omega (arith, c .before .if1 .taken)) (s .args .n) (s .pre .1)
+    letter-fit (s .args .text .now) (s .args .from) (s .args .n) (omega (arith, c .before .if1 .taken)) (s .args .n)
+    (s .pre .1)
     (omega arith)
 
 returns : tie.Need-returns

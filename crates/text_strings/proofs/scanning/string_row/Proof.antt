@@ -3,7 +3,16 @@ use mathlib.Core.Path.{refl}
 use Prim.Native.Nat.{_+_, _/_}
 use native.Mathlib.Omega.{arith}
 use borrow.Author.Needs.{needs}
-use Rattle.text_strings.proofs.RowLoops.{Halves, letter-fit, letter-read, none-read, room, row-read, x-joins, z-joins}
+use Rattle.text_strings.proofs.RowLoops.{
+  Halves,
+  letter-fit,
+  letter-read,
+  none-read,
+  room,
+  row-read,
+  x-joins,
+  z-joins,
+}
 use Rattle.text_strings.proofs.scanning.string_row.Statement.{statement}
 use Rattle.text_strings.proofs.scanning.string_row.Tie as tie
 

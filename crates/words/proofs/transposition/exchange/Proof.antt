@@ -6,7 +6,15 @@ use Prim.Native.Nat.{_%_, _*_, _+_, _-_, _<_, ℕ, _≤_}
 use native.Mathlib.Nat.{zero-mod}
 use native.Mathlib.Omega.{arith}
 use lib.ListN.{length, length-set}
-use Rattle.words.proofs.Exchanging.{Upto, all-exchanged, block-passed, none-yet, nothing-exchanged, pair-below, pair-exchanged}
+use Rattle.words.proofs.Exchanging.{
+  Upto,
+  all-exchanged,
+  block-passed,
+  none-yet,
+  nothing-exchanged,
+  pair-below,
+  pair-exchanged,
+}
 use Rattle.words.specs.internal.Squares.{Fits}
 use Rattle.words.proofs.transposition.exchange.Statement.{statement}
 use Rattle.words.proofs.transposition.exchange.Tie as tie
@@ -15,7 +23,8 @@ use Rattle.words.proofs.transposition.exchange.Lts as lts
 
 abbrev Inv-loop2 : tie.InvT-loop2
 Inv-loop2 rows₀ m s low block k₀ rows k =
-    ((block ≤ k) × (k ≤ block + s)) × ((length rows ≡ 64) × ((first : List ℕ) → Upto m s block first rows₀ → Upto m s k first rows))
+    ((block ≤ k) × (k ≤ block + s)) × ((length rows ≡ 64) × ((first : List ℕ) → Upto m s block first rows₀ → Upto m s k
+    first rows))
 
 abbrev μ-loop2 : tie.MeasureT-loop2
 μ-loop2 rows₀ m s low block k₀ rows k = block + s - k
@@ -27,7 +36,8 @@ abbrev μ-loop : tie.MeasureT-loop
 μ-loop rows₀ m s low block₀ rows block = m - block
 
 -- the facts of the round, where there is something to do
-filled : (c : lts.Else1 reads.Pre reads.Post Inv-loop2 μ-loop2 Inv-loop μ-loop) → Fits (c .before .args .m) (c .before .args .s)
+filled : (c : lts.Else1 reads.Pre reads.Post Inv-loop2 μ-loop2 Inv-loop μ-loop) → Fits (c .before .args .m)
+    (c .before .args .s)
 filled c = c .before .pre .1 .1 (c .if1 .left)
 
 -- both rows of a pair are there
@@ -115,7 +125,8 @@ loop2-again c =
       (omega (arith, known .0 .0), omega (arith, I .loop2-test .taken)),
       (
         simp length-set (known .1 .0),
-        λ first U. pair-exchanged _ _ _ (start .pre .0 .1) (start .pre .1 .0) (filled (L .before)) _ (B .loop-test .taken)
+        λ first U. pair-exchanged _ _ _ (start .pre .0 .1) (start .pre .1 .0) (filled (L .before)) _
+            (B .loop-test .taken)
             (L .loop .inv .1 .0) _ (known .0 .0) (I .loop2-test .taken) first _ (known .1 .1 first U),
       ),
     )

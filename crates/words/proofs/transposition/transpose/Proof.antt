@@ -33,7 +33,8 @@ exchange-requires-5 c κs =
 
 exchange-requires-6 : tie.Need-exchange-requires-6
 exchange-requires-6 c κs =
-    let size = c .before .before .before .before .before .before .before .before .before .before .before .size-for .ensures .1 in
+    let size = c .before .before .before .before .before .before .before .before .before .before .before .size-for
+    .ensures .1 in
     ((c .before .exchange5 .ensures .long, size-below size), (round1, fits1 size))
 
 returns : tie.Need-returns

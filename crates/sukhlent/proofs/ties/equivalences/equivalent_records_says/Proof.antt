@@ -9,4 +9,5 @@ returns c =
     equivalent-records-says _ _ _ _ _ _ _ _ _ (c .before .before .before .before .sukhlent-equivalent-records .ensures)
 
 pub equivalent-records-says-spec : {M : Type 1} → statement M
-equivalent-records-says-spec = tie.close (tie.spec (λ c κs. search needs) (λ c. search needs) (λ c. search needs) returns)
+equivalent-records-says-spec = tie.close (tie.spec (λ c κs. search needs) (λ c. search needs) (λ c. search needs)
+    returns)

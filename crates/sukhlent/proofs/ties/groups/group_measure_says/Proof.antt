@@ -5,7 +5,8 @@ use Rattle.sukhlent.proofs.ties.groups.group_measure_says.Statement.{st
 use Rattle.sukhlent.proofs.ties.groups.group_measure_says.Tie as tie
 
 returns : tie.Need-returns
-returns c = group-measure-says _ _ _ _ _ _ _ _ _ _ _ _ _ _ (c .before .before .before .before .sukhlent-group-measure .ensures)
+returns c = group-measure-says _ _ _ _ _ _ _ _ _ _ _ _ _ _
+    (c .before .before .before .before .sukhlent-group-measure .ensures)
 
 pub group-measure-says-spec : {M : Type 1} → statement M
 group-measure-says-spec = tie.close (tie.spec (λ c κs. search needs) (λ c. search needs) (λ c. search needs) returns)

@@ -5,7 +5,8 @@ use Rattle.sukhlent.proofs.ties.groups.group_save_says.Statement.{state
 use Rattle.sukhlent.proofs.ties.groups.group_save_says.Tie as tie
 
 returns : tie.Need-returns
-returns c = group-save-says _ _ _ _ _ _ _ _ _ (c .before .before .before .before .before .before .sukhlent-group-save .ensures)
+returns c = group-save-says _ _ _ _ _ _ _ _ _
+    (c .before .before .before .before .before .before .sukhlent-group-save .ensures)
 
 pub group-save-says-spec : {M : Type 1} → statement M
 group-save-says-spec =

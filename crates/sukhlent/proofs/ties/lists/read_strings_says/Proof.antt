@@ -5,7 +5,8 @@ use Rattle.sukhlent.proofs.ties.lists.read_strings_says.Statement.{stat
 use Rattle.sukhlent.proofs.ties.lists.read_strings_says.Tie as tie
 
 returns : tie.Need-returns
-returns c = read-strings-says _ _ _ _ _ _ _ _ (c .before .before .before .before .before .before .sukhlent-read-strings .ensures)
+returns c = read-strings-says _ _ _ _ _ _ _ _
+    (c .before .before .before .before .before .before .sukhlent-read-strings .ensures)
 
 pub read-strings-says-spec : {M : Type 1} → statement M
 read-strings-says-spec =

@@ -8,4 +8,5 @@ returns : tie.Need-returns
 returns c = save-says _ _ _ _ _ _ _ (c .before .before .before .before .before .before .sukhlent-save .ensures)
 
 pub save-says-spec : {M : Type 1} → statement M
-save-says-spec = tie.close (tie.spec (λ c κs. search needs) (λ c. search needs) (λ c. search needs) (λ c. search needs) returns)
+save-says-spec = tie.close (tie.spec (λ c κs. search needs) (λ c. search needs) (λ c. search needs) (λ c. search needs)
+    returns)
