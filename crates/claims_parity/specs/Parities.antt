@@ -72,12 +72,12 @@ pub record RowStands (l : LentRecord) (z x b : ℕ) (after : LentRecord) (answer
   pub identity : z ≡ 0 → x ≡ 0 → (determined′ ≡ 1) × (answer′ ≡ 0)
 
 -- two calls answered and left the same
-pub record SameAnswers (answer determined : ℕ) (nb cs : List ℕ) (answer₂ determined₂ : ℕ) (nb₂ cs₂ : List ℕ) : Type 0
-  where
-    pub outcome : answer₂ ≡ answer
-    pub flag : determined₂ ≡ determined
-    pub neighbours : nb₂ ≡ nb
-    pub codes : cs₂ ≡ cs
+pub record SameAnswers (answer determined : ℕ) (nb cs : List ℕ) (answer₂ determined₂ : ℕ) (nb₂ cs₂ : List ℕ)
+    : Type 0 where
+  pub outcome : answer₂ ≡ answer
+  pub flag : determined₂ ≡ determined
+  pub neighbours : nb₂ ≡ nb
+  pub codes : cs₂ ≡ cs
 
 -- sukhlent_measure_row, in one record
 pub record MeasureRowSays (u : UsedRecord) (z x b answer determined : ℕ) (nb′ cs′ : List ℕ) (answer′ determined′ r : ℕ)

@@ -112,18 +112,18 @@ pub record GroupReturnSays (word g : ℕ) (u : UsedRecord) (name : ℕ) (st : St
   pub gives : r ≡ 0 → PartyReturnGives word g u name st (leftUsed u nb′ cs′ used′)
 
 -- sukhlent_group_forget
-pub record GroupForgetSays (word g : ℕ) (u : UsedRecord) (name : ℕ) (st : Store) (heads′ : List ℕ) (r : ℕ) : Type 0
-  where
-    pub answered : Answered (partyForgetCall word g u name st heads′) r
-    pub accepted : (r ≡ 0) ↔ PartyNameFits word g u name st
-    pub numbers : FirstTrue (partyNamedSentences word g u name st) r
-    pub not-held : PartyNotHeld word g u name st r
-    pub keeps : r ≡ 0 → PartyForgetKeeps g name st (record {
-      heads = heads′;
-      neighbours = st .neighbours;
-      codes =
-          st .codes;
-    })
+pub record GroupForgetSays (word g : ℕ) (u : UsedRecord) (name : ℕ) (st : Store) (heads′ : List ℕ) (r : ℕ)
+    : Type 0 where
+  pub answered : Answered (partyForgetCall word g u name st heads′) r
+  pub accepted : (r ≡ 0) ↔ PartyNameFits word g u name st
+  pub numbers : FirstTrue (partyNamedSentences word g u name st) r
+  pub not-held : PartyNotHeld word g u name st r
+  pub keeps : r ≡ 0 → PartyForgetKeeps g name st (record {
+    heads = heads′;
+    neighbours = st .neighbours;
+    codes =
+        st .codes;
+  })
 
 -- sukhlent_group_observe: its outcome, determined bit and used word are those of the whole-record call too
 pub record GroupObserveSays (word g : ℕ) (u : UsedRecord) (pauli q b answer determined : ℕ) (nb′ cs′ : List ℕ)

@@ -17,7 +17,7 @@ RowLeft words codes z x bit words′ codes′ = Rewritten words codes
     (λ g. reduced (length words) (rowMeasured (length words) (rowsOf (length words) g) z x bit)) words′ codes′
 
 -- the record, and what is answered
-pub record RowInPlace (words codes : List ℕ) (z x : ℕ) (bit : Bool) (r : Outcome) (words′ codes′ : List ℕ) : Type 0
-  where
-    pub after : RowLeft words codes z x bit words′ codes′
-    pub answer : r ≡ rowOutcome (length words) (heldRows (recordIn words codes)) z x bit
+pub record RowInPlace (words codes : List ℕ) (z x : ℕ) (bit : Bool) (r : Outcome) (words′ codes′ : List ℕ)
+    : Type 0 where
+  pub after : RowLeft words codes z x bit words′ codes′
+  pub answer : r ≡ rowOutcome (length words) (heldRows (recordIn words codes)) z x bit
