@@ -66,8 +66,8 @@
 
 /* The version of this header: major * 10000 + minor * 100 + patch, and as a text.
  * sukhlent_version answers that of the library. */
-#define SUKHLENT_VERSION 1500
-#define SUKHLENT_VERSION_TEXT "0.15.0"
+#define SUKHLENT_VERSION 1600
+#define SUKHLENT_VERSION_TEXT "0.16.0"
 
 /* The length of a buffer, in elements: 64 bits on every processor, also where size_t has 32. */
 typedef uint64_t sukhlent_length;
