@@ -3,7 +3,6 @@
  * is used up. rust/sukhlent/examples/parity.rs is the same in Rust. */
 #include <stdio.h>
 #include <stdlib.h>
-#include <string.h>
 
 #include "sukhlent.h"
 

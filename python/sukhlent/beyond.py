@@ -1,25 +1,10 @@
-"""Measurements of one qubit that do not use it up, resets, and records as texts: by the calls that the library has. Each
-works on a block and answers as the functions of calls.py do: 0 or a refusal; of a measurement its outcome, and 2 more where it
-was determined, or a refusal as a negative number."""
+"""Resets, and records as texts: by the calls that the library has. A reset works on a block and answers as the functions of
+calls.py do: 0 or a refusal."""
 
 from __future__ import annotations
 
 from . import blocks, calls, library
 from .refusals import accept
-
-
-def look(block: bytearray, pauli: "int | str", qubit: int, bit: int) -> int:
-    """Measures with a bit by lot, and the qubit is not used afterwards: it stays in the measured state.
-
-    >>> block = blocks.made([0], [8], 0)
-    >>> look(block, "X", 0, 1), blocks.parts(block)
-    (1, ((0,), (2,), 0))
-    """
-    used = blocks.used(block)
-    found = calls.observe(block, pauli, qubit, bit)
-    if found >= 0:
-        blocks.set_used(block, used)
-    return found
 
 
 def reset(block: bytearray, qubit: int, code: int, bit: int) -> int:

@@ -5,7 +5,7 @@ from __future__ import annotations
 import struct
 from typing import Any, Callable, Iterable
 
-from . import beyond, blocks, calls, explain, files, library
+from . import blocks, calls, explain, files, library
 from .answers import Measured
 from .arguments import called, listed, whole
 from .codes import code
