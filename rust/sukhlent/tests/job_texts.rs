@@ -306,6 +306,15 @@ fn malformed_steps() {
     }
 }
 
+/// Operations that a run has and no text.
+#[test]
+fn observations_and_renewals_have_no_form() {
+    for line in ["observe 0 0 0", "renew 0 0 8", "observe 0 0 5"] {
+        refuses(1, &format!("{}{line}\n", head("2")));
+        refuses(1, &format!("{}measure 0 0 0\n{line}\n", head("2")));
+    }
+}
+
 #[test]
 fn every_byte_of_the_example_matters() {
     let bytes = EXAMPLE.as_bytes();
