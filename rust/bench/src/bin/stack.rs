@@ -99,7 +99,7 @@ const CALLS: [Measured; 41] = [
     }),
     ("run", 64, |random, n| {
         // Every operation, and more steps than a block of the runner has.
-        let ops: Vec<u8> = (0..100).map(|_| random.below(5) as u8).collect();
+        let ops: Vec<u8> = (0..100).map(|_| random.below(7) as u8).collect();
         let [a, b] = [0, 1].map(|_| {
             (0..100)
                 .map(|_| random.below(n) as u16)
@@ -107,12 +107,12 @@ const CALLS: [Measured; 41] = [
         });
         let value: Vec<u16> = ops
             .iter()
-            .map(|&op| [8, 0, 5, 0, 0][usize::from(op)])
+            .map(|&op| [8, 0, 5, 0, 0, 5, 8][usize::from(op)])
             .collect();
         let b: Vec<u16> = ops
             .iter()
             .zip(&b)
-            .map(|(op, &b)| b * u16::from(op % 3 == 1))
+            .map(|(op, &b)| b * u16::from([1, 4].contains(op)))
             .collect();
         let (mut refusals, mut outcomes, mut determined) = ([0; 100], [0; 100], [0; 100]);
         let told = (&mut refusals, &mut outcomes, &mut determined);
