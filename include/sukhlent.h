@@ -292,8 +292,8 @@ uint8_t sukhlent_observe(uint64_t n,
  * *determined is 0, *answer is `bit`, and the group becomes the elements that commute with the row,
  * joined by the row with that sign. The reduced record is left. No qubit is used up: `used` is only
  * read. The identity row is determined, 0.
- * Refusals: 2, 4, 5 (also where `z` or `x` has a bit at or above n), 6 (also where `bit` is above 1),
- * 7, 16 (the row acts on a used qubit). */
+ * Refusals: 2, 4, 5 (also where `z` or `x` has a bit at or above n), 6 (also where `bit` is above
+ * 1), 7, 16 (the row acts on a used qubit). */
 uint8_t sukhlent_measure_row(uint64_t n,
                              uint64_t *neighbours, sukhlent_length neighbours_len,
                              uint8_t *codes, sukhlent_length codes_len,
