@@ -296,7 +296,13 @@ pub fn read_record_call(random: &mut Random, n: usize) -> ReadRecord {
         .into_bytes(),
     };
     if lines <= 64 && random.below(2) == 0 {
-        text = plain_text(&used_record(random, lines)).into_bytes();
+        let mut record = used_record(random, lines);
+        match random.below(4) {
+            0 => record.neighbours[random.below(lines)] ^= 1 << random.below(64),
+            1 => record.used ^= 1 << random.below(lines),
+            _ => (),
+        }
+        text = plain_text(&record).into_bytes();
     }
     let faults = match random.below(4) {
         0 => 1 + random.below(3),
