@@ -25,7 +25,7 @@ use Rattle.words.specs.Bits.{bit, wordOf}
 use Rattle.words.specs.Search.{every, first, some}
 
 abbrev by : ℕ → SharedCall → CallOf
-by g c = record { group = g; call = c }
+by g c = record { party = g; call = c }
 
 abbrev calls : List CallOf
 calls =

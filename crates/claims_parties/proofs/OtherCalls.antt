@@ -78,7 +78,7 @@ module _ (word g : ℕ) (s : Session) where
   accepted-party (partyObserve pauli q b) z = operation-party (like word g (s .current) pauli q b)
       (sym (ap firstFitting (like-a-gate word g (s .current) pauli q b)) ∙ z)
   accepted-party (partyRenew q k) z =
-      let l = ltb-false 1 g (renewed-passes-party word g (s .current) q k z .party) in omega (arith, l)
+      let l = ltb-false 1 g (renewed-passes-party word g (s .current) q k z .group) in omega (arith, l)
 
 -- ---- what is left looks the same to the other party
 module _ (word g h : ℕ) (lg : g < 2) (lh : h < 2) (ne : h ≡ g → ⊥) (s : Session) (S : Good word s) where

@@ -145,7 +145,7 @@ module _ (word g : ℕ) (u : UsedRecord) where
     renew-exactly = (
       (λ z. let P = renewed-passes-party word g u q k z in
           let F = renew-lines u q k .0 (P .lines) in (
-            parties-of word g u (P .count) (P .party) (P .no-crossing),
+            parties-of word g u (P .count) (P .group) (P .no-crossing),
             own-exactly (inParty word g) q (subst (λ m. q < m) (P .count) (F .qubit)) .0 (P .own),
             F,
           )),
