@@ -596,6 +596,17 @@ public:
         const std::uint8_t number = sukhlent_groups_measure(&groups_, group, letter, qubit, outcome ? 1 : 0, &found);
         return detail::answer(number, Measured{found.outcome == 1, found.determined == 1});
     }
+    Answer<Measured> observe(std::uint8_t group, Pauli pauli, std::uint64_t qubit, bool bit)
+    {
+        sukhlent_measured found = {0, 0};
+        const std::uint8_t letter = static_cast<std::uint8_t>(pauli);
+        const std::uint8_t number = sukhlent_groups_observe(&groups_, group, letter, qubit, bit ? 1 : 0, &found);
+        return detail::answer(number, Measured{found.outcome == 1, found.determined == 1});
+    }
+    Done renew(std::uint8_t group, std::uint64_t qubit, std::uint8_t code)
+    {
+        return detail::refusal(sukhlent_groups_renew(&groups_, group, qubit, code));
+    }
     Done complement(std::uint8_t group, std::uint64_t a)
     {
         return detail::refusal(sukhlent_groups_complement(&groups_, group, a));

@@ -420,6 +420,27 @@ static inline uint8_t sukhlent_groups_measure(sukhlent_groups *groups, uint8_t g
                                   &measured->determined);
 }
 
+/* Measures with a bit by lot, which plays no part where the state determines the outcome. */
+static inline uint8_t sukhlent_groups_observe(sukhlent_groups *groups, uint8_t group, uint8_t pauli,
+                                              uint64_t qubit, uint8_t bit, sukhlent_measured *measured)
+{
+    sukhlent_record *record = &groups->record;
+    const sukhlent_length n = sukhlent_places(record->n);
+    return sukhlent_group_observe(record->n, groups->word, group, record->neighbours, n, record->codes,
+                                  n, &record->used, pauli, qubit, bit, &measured->outcome,
+                                  &measured->determined);
+}
+
+/* Puts a new photon at a used qubit of the group, in the state of its code: 0, 2, 4, 6, 8 or 10. */
+static inline uint8_t sukhlent_groups_renew(sukhlent_groups *groups, uint8_t group, uint64_t qubit,
+                                            uint8_t code)
+{
+    sukhlent_record *record = &groups->record;
+    const sukhlent_length n = sukhlent_places(record->n);
+    return sukhlent_group_renew(record->n, groups->word, group, record->neighbours, n, record->codes, n,
+                                &record->used, qubit, code);
+}
+
 static inline uint8_t sukhlent_groups_complement(sukhlent_groups *groups, uint8_t group, uint64_t a)
 {
     sukhlent_record *record = &groups->record;

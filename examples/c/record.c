@@ -72,6 +72,10 @@ static void groups(void)
     say("group 0: Z at 0, outcome 1", sukhlent_groups_measure(&two, 0, SUKHLENT_PAULI_Z, 0, 1, &measured));
     say("group 0: back to 7", sukhlent_groups_return(&two, 0, 7));
     printf("  used %d\n", (int)two.record.used);
+    say("group 1: Z at 32 by lot", sukhlent_groups_observe(&two, 1, SUKHLENT_PAULI_Z, 32, 1, &measured));
+    printf("  outcome %d, determined %d\n", measured.outcome, measured.determined);
+    say("group 0: a photon at 32", sukhlent_groups_renew(&two, 0, 32, SUKHLENT_PHOTON_PLUS_Z));
+    say("group 1: a photon at 32", sukhlent_groups_renew(&two, 1, 32, SUKHLENT_PHOTON_PLUS_Z));
 }
 
 int main(void)

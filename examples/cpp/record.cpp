@@ -58,6 +58,9 @@ static void rest()
                 sukhlent::text(store.get(8).refusal()));
     sukhlent::Groups groups(1);
     std::printf("group 0 at the qubit of group 1: %s\n", sukhlent::text(groups.gate(0, 0, SUKHLENT_GATE_X).refusal()));
+    const auto seen = groups.observe(1, sukhlent::Pauli::Z, 0, true).value();
+    std::printf("group 1 by lot: %d, determined %d\n", seen.outcome, seen.determined);
+    std::printf("a new photon: %s\n", sukhlent::text(groups.renew(1, 0, SUKHLENT_PHOTON_PLUS_Z).refusal()));
     const std::uint64_t loop[] = {1};
     const std::uint8_t codes[] = {0};
     std::printf("a loop: %s\n", sukhlent::text(Record::of(loop, codes).refusal()));
