@@ -9,7 +9,6 @@ from recorder import Lent
 
 LIST = 96
 TEXT = 61463
-RECORD_TEXT = 1627
 
 
 class Record:
@@ -240,14 +239,6 @@ class Sound:
             k = self.qubit(record)
             row = z[k], x[k]
         self.call("expectation", *record.lent(), record.used, *row, Lent(1))
-
-    def write_record(self):
-        record = self.record()
-        _, after = self.call("write_record", *record.lent(), record.used, Lent(RECORD_TEXT), Lent(1))
-        return after[2][: after[3][0]]
-
-    def read_record(self):
-        self.call("read_record", self.write_record(), Lent(1), Lent(64), Lent(64), Lent(1))
 
     # comparisons
 

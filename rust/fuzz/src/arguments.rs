@@ -2,8 +2,8 @@
 
 use crate::common::damage::{damage_list, damage_record};
 use crate::common::local::{complemented_record, sent};
-use crate::common::record_text::{plain_text, Places, ReadRecord, PLACES};
 use crate::common::parity::Joint;
+use crate::common::record_text::{plain_text, Places, ReadRecord, PLACES};
 use crate::common::reference::{product, strings_text};
 use crate::common::runs::Steps;
 use crate::common::source::Source;

@@ -89,7 +89,14 @@ mod tests {
             .iter()
             .filter_map(|what| what.strip_suffix(" with 16"));
         let with: Vec<&str> = with.collect();
-        let calls = ["gate", "cz", "measure", "observe", "measure_row", "complement"];
+        let calls = [
+            "gate",
+            "cz",
+            "measure",
+            "observe",
+            "measure_row",
+            "complement",
+        ];
         let groups = calls.iter().filter(|call| **call != "measure_row");
         let groups: Vec<String> = groups.map(|call| format!("group_{call}")).collect();
         let due = calls.into_iter().chain(groups.iter().map(String::as_str));
