@@ -24,7 +24,7 @@ def functions(text):
     """The functions of a file: the name, the contract's text and the body's."""
     found = []
     for head in re.finditer(r"^[ \t]*(?:pub )?(?:extern \"C\" )?fn (\w+)", text, re.M):
-        body = re.compile(r"^[ \t]*\{[ \t]*$|^.*\)[^\n;]*\{[ \t]*$", re.M)
+        body = re.compile(r"^[ \t]*\{[ \t]*$|^(?!.*\brecord \{[ \t]*$).*\)[^\n;]*\{[ \t]*$", re.M)
         start = body.search(text, head.start())
         if not start:
             continue
