@@ -561,9 +561,9 @@ uint8_t sukhlent_forget(uint64_t name,
                         const uint64_t *held_neighbours, sukhlent_length held_neighbours_len,
                         const uint8_t *held_codes, sukhlent_length held_codes_len);
 
-/* Two groups that share one record of 64 qubits, which the caller keeps: the record, a word that is
- * fixed at the start, whose bit q is the group of qubit q, 0 or 1, and the three buffers of a store,
- * of which group g has the places 4 * g to 4 * g + 3. All starts in +Z: neighbour words 0, codes
+/* Two groups, of people (no stabilizer groups), that share one record of 64 qubits, which the caller
+ * keeps: the record, a word that is fixed at the start, whose bit q is the group of qubit q, 0 or 1,
+ * and the three buffers of a store, of which group g has the places 4 * g to 4 * g + 3. All starts in +Z: neighbour words 0, codes
  * SUKHLENT_GATE_H, used 0, and the store empty, with all heads 0.
  *
  * A group's call works on its own vertices and leaves all others as they are: neighbour words, codes,
