@@ -13,7 +13,7 @@
  *   codes[j]       4 * class + 2 * sx + sz, 0 to 23: the local Clifford of vertex j. The class
  *                  gives the letters to which X and Z go: 0 (X,Z), 1 (Y,Z), 2 (Z,X), 3 (X,Y),
  *                  4 (Y,X), 5 (Z,Y); sx or sz is 1 if that image is negative
- *   used           bit q is 1 where qubit q is used: an accepted measurement sets it, and no call
+ *   used           bit q is 1 where qubit q is used: an accepted measure or observe sets it, and no call
  *                  in place but renew, which takes it away, may name the qubit from then on. A used
  *                  vertex has no neighbour, and its code is 0, 2, 4, 6, 8 or 10
  * Its generator j is +X at j and Z at the neighbours of j, each place then sent through its code;
@@ -168,8 +168,8 @@ typedef uint64_t sukhlent_length;
  *   itself compares sukhlent_version() / 100 with SUKHLENT_VERSION / 100.
  * Threads: no call keeps anything between calls. Two threads may call at once, each with buffers
  *   of its own for what is not const.
- * Stack: no call uses the heap. Of the stack, compare, equivalent and those of records take at most
- *   these bytes, and every other call at most 6,000 (measured, not proved: docs/PROCESSORS.md):
+ * Stack: no call uses the heap. Of the stack, compare, equivalent, compare_records and
+ *   equivalent_records take at most these bytes, and every other call at most 6,000 (measured, not proved: docs/PROCESSORS.md):
  *   x86-64        19,000
  *   x86-64-v3     19,000
  *   aarch64       18,500
@@ -503,7 +503,7 @@ uint8_t sukhlent_write_record(uint64_t n,
 
 /* Reads the record of a text as sukhlent_write_record writes it, byte for byte: a record has one text,
  * and a text one record. `neighbours` and `codes` have 64 places; those from `*n` on keep their values.
- * Refusals: 1 (also for the empty text), 2 (the names alone, or more than 64 lines), 4, 5, 6 (a code
+ * Refusals: 1 (also for the empty text), 2 (the names alone, or more than 64 qubits), 4, 5, 6 (a code
  * from 24 to 99), 7. */
 uint8_t sukhlent_read_record(const uint8_t *text, sukhlent_length text_len, uint64_t *n,
                              uint64_t *neighbours, sukhlent_length neighbours_len,

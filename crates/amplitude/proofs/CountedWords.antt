@@ -1,6 +1,5 @@
 -- As many words are supported as the rank of the x words says: 2 ^ rank. So the rank depends on the group alone, and on
--- a
--- reduced form it counts the vertices without a Hadamard.
+-- a reduced form it counts the vertices without a Hadamard.
 use mathlib.Core.Bool.{_&&_, Bool, _||_, and-true, false, not, true}
 use mathlib.Core.Logic.{inl, inr, _⊎_}
 use mathlib.Core.Path.{_∙_, _≡_, ap, ap₂, refl, sym}

@@ -67,8 +67,7 @@ OnlyVector n R = (w : ℕ → Gaussian) → Stabilized n R w → (y : ℕ) → y
     → w y ≡ cond (isSupported n R y) (turnBy (ratio n R y) (w (lowest n R))) none
 
 -- ---- the same of vectors of any other numbers, complex ones among them: powers of i act on them, one after the other
--- as
--- their product does, and only 0 is its own negative
+-- as their product does, and only 0 is its own negative
 pub record Numbers : Type 1 where
   pub Number : Type 0
   pub zero : Number

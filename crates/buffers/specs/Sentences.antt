@@ -1,6 +1,5 @@
 -- Refusals in the documents' words: lines of the published list as sentences about the arguments, in checking order,
--- and
--- the number of the first that is true. They name no test.
+-- and the number of the first that is true. They name no test.
 use mathlib.Core.Bool.{true}
 use mathlib.Core.List.{List, [], _∷_}
 use mathlib.Core.Logic.{_≢_, _⊎_}
@@ -19,8 +18,7 @@ abbrev pub sentence : ℕ → Type 0 → Sentence
 sentence k P = record { number = k; says = P }
 
 -- "the first fitting number", and "a number comes back only where its line below is true": r is that of the first
--- sentence
--- that is true, 0 where none is
+-- sentence that is true, 0 where none is
 abbrev pub FirstTrue : List Sentence → ℕ → Type 0
 FirstTrue [] r = r ≡ 0
 FirstTrue (s ∷ ss) r = (s .says × (r ≡ s .number)) ⊎ ((s .says → ⊥) × FirstTrue ss r)

@@ -1,6 +1,5 @@
 -- The call on two records, from what the functions below it answer: the number of two records together is the earlier
--- of
--- their numbers, and reduced copies hold the reduced records of the records' generators.
+-- of their numbers, and reduced copies hold the reduced records of the records' generators.
 use mathlib.Core.Bool.{Bool, false, true, _||_}
 use mathlib.Core.List.{List}
 use mathlib.Core.Path.{ap, ap₂, refl, subst, sym, _∙_, _≡_}

@@ -52,8 +52,7 @@ module _ (R : RattleType) (κ κ′ : Lft) (q : Share) (γ : GName) (b o : ℕ) 
   at-list δ ys = record { ptr = (b, o); name = δ; now = ys }
 
   -- what the holder keeps while the slice is lent again under the name γ₁: the lender's part at κ′, and its own borrow
-  -- at
-  -- κ, open, with both halves of its ghost variable
+  -- at κ, open, with both halves of its ghost variable
   abbrev pub LentAgain : GName → List (R .Denot) → Fml
   LentAgain γ₁ ys = fsep (flent κ′ (Held R (length ys) b o γ₁)) (fsep (fobor κ q (Held R (length ys) b o γ))
       (fsep (fobs γ (codedHoleys R .code (heres R ys))) (fauth γ (codedHoleys R .code (heres R ys)))))

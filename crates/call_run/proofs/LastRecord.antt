@@ -1,6 +1,5 @@
 -- A run from the first place on: before its first step nothing waits, and the record that is meant after its last is
--- the
--- one that the definitions have.
+-- the one that the definitions have.
 use mathlib.Core.Bool.{false}
 use mathlib.Core.List.{List}
 use mathlib.Core.Path.{_∙_, _≡_, ap, subst}

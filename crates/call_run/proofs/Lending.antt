@@ -1,6 +1,5 @@
 -- A lent slice and its token, as a function holds them that lends the slice again to a call: it goes out at a lifetime
--- of
--- the call, and comes in at its last list.
+-- of the call, and comes in at its last list.
 -- Assumes `Given`.
 use mathlib.Core.List.{List, [], _∷_}
 use mathlib.Core.Path.{_≡_}

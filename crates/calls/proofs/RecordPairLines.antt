@@ -1,6 +1,5 @@
 -- Two records compared: the number of both together is the earlier of their numbers, and the comparison of their
--- reduced
--- records decides.
+-- reduced records decides.
 use mathlib.Core.Bool.{Bool, false, not, _||_}
 use mathlib.Core.List.{_++_, List, [], _∷_}
 use mathlib.Core.Path.{ap, ap₂, sym, _∙_, _≡_}

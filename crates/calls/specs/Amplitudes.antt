@@ -1,6 +1,5 @@
 -- What the call on amplitudes promises, for all arguments. The three floats are lent as their 64 bits, so that a
--- refused
--- call keeps a NaN bit for bit. A name with a prime is what is lent at exit.
+-- refused call keeps a NaN bit for bit. A name with a prime is what is lent at exit.
 use mathlib.Core.Bool.{false}
 use mathlib.Core.List.{List, [], _∷_}
 use Prim.Native.Nat.{_^_, ℕ}

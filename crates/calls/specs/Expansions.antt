@@ -1,6 +1,5 @@
 -- What the call that expands a record promises, for all arguments: its lines in checking order, and the buffers lent
--- for
--- its answer. A name with a prime is what the buffer holds at exit.
+-- for its answer. A name with a prime is what the buffer holds at exit.
 use mathlib.Core.Bool.{false, _||_}
 use mathlib.Core.List.{List, [], _∷_}
 use Prim.Native.Nat.{ℕ}

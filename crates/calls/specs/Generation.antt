@@ -8,8 +8,7 @@ use Rattle.jobs.specs.Drawn.{generatedText}
 use Rattle.jobs.specs.GeneratedLines.{generateLines}
 
 -- ---- sukhlent_generate: "The generator takes n, a count of steps and a seed"; "Its lent buffer has 61,463 bytes;
--- those
--- past the text keep their values"
+-- those past the text keep their values"
 abbrev pub generateCall : ℕ → ℕ → ℕ → List ℕ → ℕ → List ℕ → ℕ → Contract
 generateCall n count seed text size text′ size′ =
     contractOf (generateLines n count seed text)

@@ -23,8 +23,7 @@ measureLent l pauli q b answer determined neighbours′ codes′ answer′ deter
     ∷ recordLent l (measurementOf pauli q b) neighbours′ codes′
 
 -- ---- sukhlent_gate, sukhlent_cz, sukhlent_complement, and the pivot of a job: "gates, cz and rewritings copy" the
--- used
--- word, which is not lent
+-- used word, which is not lent
 abbrev pub usedCall : UsedRecord → Operation → List ℕ → List ℕ → Contract
 usedCall u o neighbours′ codes′ = contractOf (usedLinesOf u o) (recordLent (u .held) o neighbours′ codes′)
 

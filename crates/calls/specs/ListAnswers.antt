@@ -29,8 +29,7 @@ listAnswer l =
     (refusedText (firstFitting (checkLines l)))
 
 -- these bytes answer the text t, where `answer` says what is printed for a list. 1: "The program's text does not have
--- its
--- form"
+-- its form"
 pub record AnswersList (answer : GeneratorList → List ℕ) (t bytes : List ℕ) : Type 0 where
   pub malformed : (HasForm t → ⊥) → bytes ≡ refusedText 1
   pub formed : (ls : List ListLine) → TextOf ls t → bytes ≡ answer (listRead ls)

@@ -23,8 +23,7 @@ abbrev pub orbitOf : ℕ → List ℕ → List ℕ
 orbitOf n neighbours = orbitList n (graphNumber n (graphIn neighbours))
 
 -- ---- sukhlent_orbit: "all graphs that complementations reach from one on up to 6 vertices"; the places "past the
--- count
--- keep their values"
+-- count keep their values"
 abbrev pub orbitCall : ℕ → List ℕ → List ℕ → ℕ → List ℕ → ℕ → Contract
 orbitCall n neighbours list count list′ count′ =
     contractOf (orbitLines n neighbours list)

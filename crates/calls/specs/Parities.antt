@@ -1,6 +1,5 @@
 -- What the call that measures a Pauli row promises, for all arguments. A name with a prime is what the buffer, or the
--- lent
--- number, holds at exit.
+-- lent number, holds at exit.
 use mathlib.Core.List.{List, [], _∷_}
 use Prim.Native.Nat.{ℕ}
 use Rattle.buffers.specs.Calls.{Contract, buffer, contractOf, number}

@@ -15,8 +15,7 @@ abbrev pub plotLines : GeneratorList → List Refusal
 plotLines l = line 2 (ltb 10 (l .n)) ∷ checkLines l
 
 -- "For n up to 10 a program with `reduce`'s input, layout and refused texts prints, for y rising from 0, y .. and the
--- three
--- floats' bits": the words below 2^n, or the number of the first line that holds of the list
+-- three floats' bits": the words below 2^n, or the number of the first line that holds of the list
 unfoldable pub plotAnswer : GeneratorList → List ℕ
 plotAnswer l =
     cond (eqb (firstFitting (plotLines l)) 0)

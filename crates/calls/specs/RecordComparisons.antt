@@ -1,6 +1,5 @@
 -- What the call that compares two records promises, for all arguments: its lines in checking order, and the buffers
--- lent
--- for its answer. A name with a prime is what the buffer, or the lent number, holds at exit.
+-- lent for its answer. A name with a prime is what the buffer, or the lent number, holds at exit.
 use mathlib.Core.Bool.{Bool, not, _||_}
 use mathlib.Core.List.{_++_, List, [], _∷_}
 use Prim.Native.Nat.{ℕ}

@@ -1,6 +1,5 @@
 -- What the calls on texts of records promise, for all arguments. A name with a prime is what the buffer, or the lent
--- number,
--- holds at exit.
+-- number, holds at exit.
 use mathlib.Core.Bool.{false, not, _||_}
 use mathlib.Core.List.{List, [], _∷_}
 use Prim.Native.Nat.{ℕ}

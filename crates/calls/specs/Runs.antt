@@ -1,6 +1,5 @@
 -- What the call over many steps promises, for all arguments. A name with a prime is what the buffer, or the lent
--- number,
--- holds at exit.
+-- number, holds at exit.
 use mathlib.Core.Bool.{Bool, false, _||_}
 use mathlib.Core.List.{List, [], map, _∷_}
 use Prim.Native.Nat.{ℕ}
@@ -46,8 +45,7 @@ abbrev pub runLines : UsedRecord → LentSteps → List Refusal
 runLines u s = line 15 (ltb 4096 (length (s .ops))) ∷ usedLines u (otherLengths s) false (reaching 7 (s .ops))
 
 -- refusal, outcome and determined of each step, in a slice each. "Fields without meaning" are 0, so outcome and
--- determined
--- of a refused step are
+-- determined of a refused step are
 abbrev pub answersLent : LentSteps → List Answer → List ℕ → List ℕ → List ℕ → List Lent
 answersLent s answers refusals′ outcomes′ determined′ =
     buffer (s .refusals) (map (λ r. r .refusal) answers) refusals′
@@ -55,8 +53,7 @@ answersLent s answers refusals′ outcomes′ determined′ =
     ∷ buffer (s .determined) (map (λ r. r .determined) answers) determined′ ∷ []
 
 -- ---- sukhlent_run: "each step's number stands in refusals, and a refused step changes nothing"; the record is what
--- the
--- steps leave, one after the other
+-- the steps leave, one after the other
 abbrev pub runCall : (u : UsedRecord) (s : LentSteps) (neighbours′ codes′ : List ℕ) (used′ : ℕ)
     (refusals′ outcomes′ determined′ : List ℕ) → Contract
 runCall u s neighbours′ codes′ used′ refusals′ outcomes′ determined′ =

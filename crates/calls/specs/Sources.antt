@@ -1,6 +1,6 @@
 -- What the calls of a source that goes on promise, for all arguments: a measurement with a bit by lot, and a new photon
--- at
--- a used place, of a record and of a group. A name with a prime is what the buffer, or the lent number, holds at exit.
+-- at a used place, of a record and of a group. A name with a prime is what the buffer, or the lent number, holds at
+-- exit.
 use mathlib.Core.List.{List, [], _∷_}
 use Prim.Native.Nat.{ℕ}
 use Rattle.buffers.specs.Calls.{Contract, buffer, contractOf, number}
@@ -12,8 +12,7 @@ use Rattle.operations.specs.Used.{UsedRecord, usedAfter, usedArgumentsOf}
 use Rattle.calls.specs.InPlace.{measureLent}
 
 -- ---- sukhlent_observe: "as `measure`, but where the state determines the outcome the bit is ignored and the state's
--- sign
--- is the answer": the lines of a measurement without 14, and the same answers
+-- sign is the answer": the lines of a measurement without 14, and the same answers
 abbrev pub observeCall : (u : UsedRecord) (pauli q b answer determined : ℕ) (neighbours′ codes′ : List ℕ)
     (used′ answer′ determined′ : ℕ) → Contract
 observeCall u pauli q b answer determined neighbours′ codes′ used′ answer′ determined′ =

@@ -1,6 +1,5 @@
 -- The lines of the calls on a record lent in place, without the used word, exactly: none of them holds where the record
--- is
--- accepted and the arguments fit.
+-- is accepted and the arguments fit.
 use mathlib.Core.Bool.{Bool, false, not, true, true≢false, _||_}
 use mathlib.Core.Logic.{_↔_, _≢_}
 use mathlib.Core.Path.{_≡_, _∙_, ap, refl, sym}

@@ -1,6 +1,5 @@
 -- A measurement with a bit by lot: what is claimed of it holds, by its contract and the measurement with the outcome
--- that
--- it answers.
+-- that it answers.
 use mathlib.Core.Bool.{Bool, cond, false, true}
 use mathlib.Core.List.{List, []}
 use mathlib.Core.Logic.{Iff·trans, _↔_}

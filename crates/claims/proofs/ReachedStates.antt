@@ -1,6 +1,5 @@
 -- Graphs that complementations reach from each other have plain states that a choice of codes carries onto each other,
--- and
--- the graphs to which lists of complementations lead are reached.
+-- and the graphs to which lists of complementations lead are reached.
 use mathlib.Core.Bool.{_&&_, not, true≢false}
 use mathlib.Core.List.{List, [], _∷_}
 use mathlib.Core.Logic.{inl, inr, _⊎_}

@@ -185,6 +185,9 @@ read-record-says t n nb cs used n′ nb′ cs′ used′ r C =
       answered = answered (read-conforms t n nb cs used n′ nb′ cs′ used′) C;
       accepted = Iff·trans (by-lines C) (read-lines t nb cs);
       numbers = in-words (readRecordSentences t nb cs) (read-words t nb cs) C;
+      read = λ z. let D = at-zero C z in
+          subst (λ u. IsRecord u × (t ≡ printOf u)) (sym (read-record t n nb cs used n′ nb′ cs′ used′ D))
+          (parts t n nb cs used n′ nb′ cs′ used′ D .is-record, read-text-is t n nb cs used n′ nb′ cs′ used′ D);
       past = λ z. read-past t n nb cs used n′ nb′ cs′ used′ (at-zero C z);
       back = λ z. let D = at-zero C z in
           subst (RecordTextComesBack t) (sym (read-record t n nb cs used n′ nb′ cs′ used′ D))

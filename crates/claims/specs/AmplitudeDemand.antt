@@ -1,6 +1,5 @@
 -- Amplitudes (02, §11): the answers are the state that the group fixes, over its value at the smallest word with a
--- nonzero
--- amplitude; what an accepted call writes. The three floats are lent as their bits; a name with a prime is what
+-- nonzero amplitude; what an accepted call writes. The three floats are lent as their bits; a name with a prime is what
 -- is lent at exit.
 use mathlib.Core.Bool.{Bool}
 use mathlib.Core.Path.{_≡_}
@@ -29,8 +28,7 @@ use Rattle.operations.specs.Used.{UsedRecord}
 
 -- the vector of the answers is fixed by every element of the group, and every vector that is so is a multiple of it;
 -- "the smallest word with a nonzero amplitude"; "A group element whose x part leads from that word to y fixes the
--- ratio";
--- as many words as the probabilities, "exactly 2^−r with r the rank of the x words", need to add up to 1
+-- ratio"; as many words as the probabilities, "exactly 2^−r with r the rank of the x words", need to add up to 1
 pub record AmplitudeDemand (n : ℕ) (R : ℕ → Pauli) : Type 0 where
   pub fixed : Stabilized n R (amplitudes n R)
   pub only : OnlyVector n R

@@ -1,8 +1,7 @@
 -- Of cuts: "answers the rank modulo 2 of the edges between the sides. An empty or full side gives 0"; and "gates on
 -- single qubits, and CZ inside a side, never change the number, and complementing at any vertex doesn't either". Each
--- is
--- said of an accepted call on any record, reduced or not, and of every cut: the call's number is 0, and a name with a
--- prime is what is held at exit.
+-- is said of an accepted call on any record, reduced or not, and of every cut: the call's number is 0, and a name with
+-- a prime is what is held at exit.
 use mathlib.Core.List.{List}
 use mathlib.Core.Path.{_≡_}
 use Prim.Native.Nat.{_*_, _-_, _^_, ℕ}

@@ -105,10 +105,8 @@ pub record EquivalentRecordsFits (l m : LentRecord) (choice list : List ℕ) : T
   pub expansions : EquivalentFits (expansion l) (expansion m) choice list
 
 -- sukhlent_equivalent_records, in one record: demand 1, which arguments it accepts, the answer of sukhlent_equivalent
--- on the
--- records' expansions, and so demand 3 for n up to 64; records that no line refuses are taken, or refused by 13; and
--- where
--- no part is larger than 20 the answer of sukhlent_compare_records
+-- on the records' expansions, and so demand 3 for n up to 64; records that no line refuses are taken, or refused by 13;
+-- and where no part is larger than 20 the answer of sukhlent_compare_records
 pub record EquivalentRecordsSays (l m : LentRecord) (choice list : List ℕ) (count : ℕ) (choice′ list′ : List ℕ)
     (count′ r : ℕ) : Type 0 where
   pub answered : Answered (equivalentRecordsCall l m choice list count choice′ list′ count′) r

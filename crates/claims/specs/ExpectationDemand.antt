@@ -1,7 +1,6 @@
 -- Of the value of a Pauli row: "the answer is 0 where the row is in the group, 1 where its negative is, 2 where neither
 -- is", and what gates, CZ, measurements and rewritings do to it. Each is said of accepted calls, on any record, reduced
--- or
--- not: a call's number is 0, and a name with a prime is what is held at exit.
+-- or not: a call's number is 0, and a name with a prime is what is held at exit.
 use mathlib.Core.Bool.{Bool, cond, false, not, true}
 use mathlib.Core.List.{List}
 use mathlib.Core.Logic.{_↔_, _⊎_}

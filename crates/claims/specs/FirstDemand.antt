@@ -29,8 +29,7 @@ pub record FirstDemand : Type 0 where
   pub parties : PartiesConform
 
 -- "What a buffer lent only for the answer holds before the call makes no line true": buffers of equal lengths give
--- equal
--- numbers
+-- equal numbers
 pub record AnswerBuffersUnread : Type 0 where
   pub lists : ListBuffersUnread
   pub records : RecordBuffersUnread

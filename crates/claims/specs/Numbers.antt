@@ -1,8 +1,6 @@
 -- Every number in words: for each call the lines of the published list that it may return, in checking order, each with
--- what
--- it says of the arguments. `FirstTrue` of such a list is in the record of each exported function: "a number comes back
--- only
--- where its line below is true", and it is the first.
+-- what it says of the arguments. `FirstTrue` of such a list is in the record of each exported function: "a number comes
+-- back only where its line below is true", and it is the first.
 --
 -- Of the calls in place: operations/specs/UsedSentences; of a store: store/specs/StoreSentences; of a party:
 -- parties/specs/PartySentences.

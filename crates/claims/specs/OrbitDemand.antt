@@ -1,7 +1,6 @@
 -- Orbits (02, §14): "The list rises by number and holds each reachable graph exactly once and no other"; "Two graphs
--- lie on
--- one list exactly if their plain states, all codes 0, pass 01's comparison." A name with a prime is what is held at
--- exit.
+-- lie on one list exactly if their plain states, all codes 0, pass 01's comparison." A name with a prime is what is
+-- held at exit.
 use mathlib.Core.List.{List}
 use mathlib.Core.Logic.{_↔_}
 use mathlib.Core.Path.{_≡_}
@@ -57,8 +56,7 @@ abbrev pub Describes : GeneratorList → Graph → Type 0
 Describes l θ = SameGroup (l .n) (l .n) (rows l) (rowsOf (l .n) (plain θ))
 
 -- the second graph is on the list of the first exactly if the comparison of two accepted lists that describe their
--- plain
--- states answers 0
+-- plain states answers 0
 abbrev pub SameListExactly : Type 0
 SameListExactly = (l m : GeneratorList) (first second list : List ℕ) (count : ℕ) (list′ : List ℕ) (count′ : ℕ) →
     Call (orbitCall (l .n) first list count list′ count′) 0 → firstFitting (orbitLines (l .n) second list) ≡ 0 →

@@ -1,7 +1,6 @@
 -- Pivots: "The pivot call is withdrawn .. In stored jobs a pivot that was accepted runs on as complement at a, b, a,
--- with
--- one result line; any other prints its refusal as before" (02, §14). Each is said of every step of a job whose op is
--- pivot, on any record with its used qubits.
+-- with one result line; any other prints its refusal as before" (02, §14). Each is said of every step of a job whose op
+-- is pivot, on any record with its used qubits.
 use mathlib.Core.Bool.{true}
 use mathlib.Core.List.{List, [], _∷_}
 use mathlib.Core.Logic.{_↔_, _≢_}

@@ -1,6 +1,6 @@
 -- What the program `amplitudes` prints for a text, from what fn `plot_reply` of jobs_replies ensures of the text that
--- was scanned,
--- whatever text it was. The bytes are those of the buffer up to the place that it answers; the program writes these.
+-- was scanned, whatever text it was. The bytes are those of the buffer up to the place that it answers; the program
+-- writes these.
 use mathlib.Core.List.{List}
 use mathlib.Core.Path.{_≡_}
 use Prim.Native.Nat.{_<_, _^_, ℕ, _≤_}

@@ -1,7 +1,6 @@
 -- What the programs `reduce` and `job` print for a text, from what fn `list_reply` of text_replies and `job_reply` of
 -- jobs_replies ensure of the text that was scanned, whatever text it was. The bytes are those of the buffer up to the
--- place
--- that it answers; the program writes these.
+-- place that it answers; the program writes these.
 use mathlib.Core.List.{List}
 use mathlib.Core.Logic.{_↔_, _⊎_}
 use mathlib.Core.Path.{_≡_}

@@ -1,6 +1,5 @@
 -- Records as texts, of the public calls: a record written (sukhlent_write_record) and a text read
--- (sukhlent_read_record). A
--- name with a prime is what the buffer, or the lent number, holds at exit.
+-- (sukhlent_read_record). A name with a prime is what the buffer, or the lent number, holds at exit.
 use mathlib.Core.List.{List, _++_, _∷_}
 use mathlib.Core.Logic.{_↔_, _⊎_}
 use mathlib.Core.Path.{_≡_}
@@ -72,11 +71,13 @@ RecordTextComesBack t u = (text : List ℕ) (size : ℕ) (text′ : List ℕ) (s
     Call (writeRecordCall u text size text′ size′) r → (r ≡ 0) × (take size′ text′ ≡ t)
 
 -- sukhlent_read_record, in one record
-pub record ReadRecordSays (t : List ℕ) (n : ℕ) (nb cs : List ℕ) (used n′ : ℕ) (nb′ cs′ : List ℕ) (used′ r : ℕ) : Type
-    0 where
+pub record ReadRecordSays (t : List ℕ) (n : ℕ) (nb cs : List ℕ) (used n′ : ℕ) (nb′ cs′ : List ℕ) (used′ r : ℕ)
+    : Type 0 where
   pub answered : Answered (readRecordCall t n nb cs used n′ nb′ cs′ used′) r
   pub accepted : (r ≡ 0) ↔ ReadRecordFits t nb cs
   pub numbers : FirstTrue (readRecordSentences t nb cs) r
+  -- what is read is a record, and the text is its print
+  pub read : r ≡ 0 → IsRecord (recordRead n′ nb′ cs′ used′) × (t ≡ printOf (recordRead n′ nb′ cs′ used′))
   -- "those from `*n` on keep their values"
   pub past : r ≡ 0 → (drop n′ nb′ ≡ drop n′ nb) × (drop n′ cs′ ≡ drop n′ cs)
   pub back : r ≡ 0 → RecordTextComesBack t (recordRead n′ nb′ cs′ used′)

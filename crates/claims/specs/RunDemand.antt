@@ -1,8 +1,6 @@
 -- Many steps in one call: demand 1 of sukhlent_run, which arguments it accepts, and what the record that it leaves and
--- the
--- answer of each step say of the group. What `JobsStand` says of jobs is said of it: "the record after the first k
--- steps
--- stands for the group that the definitions give, refused steps counting as no change" (02, §5).
+-- the answer of each step say of the group. What `JobsStand` says of jobs is said of it: "the record after the first k
+-- steps stands for the group that the definitions give, refused steps counting as no change" (02, §5).
 use mathlib.Core.List.{List, _∷_}
 use mathlib.Core.Logic.{_↔_, _⊎_}
 use mathlib.Core.Path.{_≡_}

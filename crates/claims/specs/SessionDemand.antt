@@ -1,8 +1,7 @@
 -- The request on faster sessions, of the public calls: "For every record the answer equals the one from expanding,
 -- changing the list and reducing" (02, §7): of an accepted call, whose number is 0, what the two buffers nb′, cs′ hold
 -- at exit; and of every call its number. "§7's equality is of graph and codes" (02, §8): the record is expanded with
--- its
--- used word, and reducing answers the word 0.
+-- its used word, and reducing answers the word 0.
 use mathlib.Core.List.{_++_, List, [], _∷_}
 use mathlib.Core.Logic.{_≢_}
 use mathlib.Core.Path.{_≡_}

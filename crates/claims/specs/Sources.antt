@@ -1,6 +1,5 @@
 -- A source that goes on, of the public calls: a measurement with a bit by lot (sukhlent_observe), and a new photon at a
--- used
--- place (sukhlent_renew). A name with a prime is what the buffer, or the lent number, holds at exit.
+-- used place (sukhlent_renew). A name with a prime is what the buffer, or the lent number, holds at exit.
 use mathlib.Core.Bool.{_&&_, false, not, true}
 use mathlib.Core.List.{List, [], _++_, _∷_}
 use mathlib.Core.Logic.{_↔_, _≢_, _⊎_}
@@ -47,8 +46,7 @@ pub record ObservationStands (l : LentRecord) (pauli q b : ℕ) (after : LentRec
   pub either : (determined′ ≡ 0) ⊎ (determined′ ≡ 1)
   pub outcome : (answer′ ≡ 0) ⊎ (answer′ ≡ 1)
   -- "If the Pauli or its negative is in the group, the answer says determined, gives the sign as outcome, ignores the
-  -- bit
-  -- and keeps the group"
+  -- bit and keeps the group"
   pub exactly : (determined′ ≡ 1) ↔ (InGroup (l .n) (l .n) (heldRows l) (signedPauli pauli q false)
       ⊎ InGroup (l .n) (l .n) (heldRows l) (signedPauli pauli q true))
   pub sign : determined′ ≡ 1 → InGroup (l .n) (l .n) (heldRows l) (signedPauli pauli q (isOdd answer′))
@@ -114,8 +112,7 @@ abbrev pub linesBefore20 : UsedRecord → ℕ → ℕ → List Refusal
 linesBefore20 u q k = usedLines u false false (not (usedCode k)) ++ (line 8 (leb (u .held .n) q) ∷ [])
 
 -- its lines. 6: the code is none of 0, 2, 4, 6, 8 and 10; 8: "A qubit number is n or more"; 20: "the qubit to renew is
--- not
--- used"
+-- not used"
 abbrev pub renewSentences : UsedRecord → ℕ → ℕ → List Sentence
 renewSentences u q k =
     usedSentences u (RecordMisfits (u .held)) (StrayBit u) (CodeAbove23 (u .held) ⊎ (OfSix k → ⊥))

@@ -57,8 +57,7 @@ pub record Decided (l m : GeneratorList) (list : List ℕ) (r : ℕ) (choice′ 
 
 -- "For every two generator lists, and whatever the lent answer buffers held": "lists and buffers are accepted where
 -- none of lines 2 to 10 below holds of the lists, nor line 4 of the buffers"; and "demand 3 holds for n up to 64 where
--- no
--- part is larger than 20" (02, §9)
+-- no part is larger than 20" (02, §9)
 abbrev pub ThirdDemand : Type 0
 ThirdDemand =
     (l m : GeneratorList) (choice list : List ℕ) (count r : ℕ) (choice′ list′ : List ℕ) (count′ : ℕ) →
@@ -66,8 +65,7 @@ ThirdDemand =
     SmallParts l → SmallParts m → Decided l m list r choice′ list′ count′
 
 -- "if lists and buffers are accepted, and the lists describe states on the same number n of qubits"; an accepted list
--- has
--- n from 1 to 64
+-- has n from 1 to 64
 pub record AcceptedPair (l m : GeneratorList) (choice list : List ℕ) : Type 0 where
   pub first : firstFitting (checkLines l) ≡ 0
   pub second : firstFitting (checkLines m) ≡ 0

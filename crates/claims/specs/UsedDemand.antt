@@ -1,6 +1,5 @@
 -- Used-up photons (02, §8), of the public calls: "A record gains a word of used qubits, and an accepted measurement
--- sets
--- the qubit's bit". A name with a prime is what the buffer, or the lent number, holds at exit.
+-- sets the qubit's bit". A name with a prime is what the buffer, or the lent number, holds at exit.
 use mathlib.Core.Bool.{false, true, _||_}
 use mathlib.Core.List.{List}
 use mathlib.Core.Logic.{_↔_, _≢_}
@@ -55,8 +54,7 @@ MeasurementsMark =
     UsedMarked u pauli q b nb′ cs′ used′ answer′
 
 -- ---- 16, "the call names a used qubit; checked directly after 8": exactly if no earlier line holds and a named qubit
--- is
--- used. The lines before it are those of 2 to 8
+-- is used. The lines before it are those of 2 to 8
 abbrev pub SixteenExactly : UsedRecord → Operation → ℕ → Type 0
 SixteenExactly u o r = (r ≡ 16) ↔ ((firstFitting (earlierLines u o) ≡ 0) × (namesUsed u o ≡ true))
 

@@ -1,6 +1,5 @@
 -- Measurements of Pauli rows, of the public call sukhlent_measure_row. A name with a prime is what the buffer, or the
--- lent
--- number, holds at exit.
+-- lent number, holds at exit.
 use mathlib.Core.Bool.{false, true}
 use mathlib.Core.List.{List, [], _++_, _∷_}
 use mathlib.Core.Logic.{_↔_, _⊎_}
@@ -63,8 +62,7 @@ pub record RowStands (l : LentRecord) (z x b : ℕ) (after : LentRecord) (answer
   pub sign : determined′ ≡ 1 → InGroup (l .n) (l .n) (heldRows l) (signedRow (isOdd answer′) z x)
   pub kept : determined′ ≡ 1 → SameGroup (l .n) (l .n) (heldRows l) (heldRows after)
   -- "otherwise the outcome is the bit and the group becomes the elements that commute with the row, joined by the row
-  -- with
-  -- that sign"
+  -- with that sign"
   pub bit : determined′ ≡ 0 → answer′ ≡ b
   pub joined : determined′ ≡ 0 → (p : Pauli) → InGroup (l .n) (l .n) (heldRows after) p
       ↔ Measured (l .n) (heldRows l) (signedRow (isOdd b) z x) p

@@ -1,6 +1,5 @@
 -- A call of the other party leaves what a party sees; a call of either leaves the parties apart; and a call with
--- another
--- party's number, or on a record with an edge between the parties, is refused.
+-- another party's number, or on a record with an edge between the parties, is refused.
 use mathlib.Core.Bool.{false, true}
 use mathlib.Core.Path.{ap, refl, sym, _∙_, _≡_}
 use Prim.Native.Nat.{_*_, _+_, _<_, _≤_, ℕ}

@@ -1,6 +1,5 @@
 -- What is said of a party's observation and renewal, from their contracts: the observation is the party's measurement
--- with the
--- outcome that it answers, and the renewal is that of the whole record.
+-- with the outcome that it answers, and the renewal is that of the whole record.
 use mathlib.Core.Bool.{_&&_, Bool, and-true, false, not, or-false, true≢false, _||_}
 use mathlib.Core.List.{List, []}
 use mathlib.Core.Logic.{_↔_, _≢_}

@@ -1,7 +1,6 @@
 -- Classes that satisfy the equations of the first qubits extend to classes that solve all: a solution that is
--- invertible
--- at one qubit is invertible at all, since the first graph is connected. And what solves all sends each generator into
--- the second group, up to a sign.
+-- invertible at one qubit is invertible at all, since the first graph is connected. And what solves all sends each
+-- generator into the second group, up to a sign.
 use mathlib.Core.Bool.{_&&_, Bool, false, true}
 use mathlib.Core.List.{List}
 use mathlib.Core.Logic.{inl, inr, _⊎_}

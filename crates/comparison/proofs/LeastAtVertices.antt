@@ -1,6 +1,5 @@
 -- A choice that is settled at every vertex is the least that works; what happens outside a vertex's part does not
--- matter;
--- and the least choice of a part, in its numbers, settles its vertices.
+-- matter; and the least choice of a part, in its numbers, settles its vertices.
 use mathlib.Core.Bool.{Bool, false, true, true≢false}
 use mathlib.Core.Logic.{inl, inr, _⊎_}
 use mathlib.Core.Path.{ap, ap₂, refl, subst, sym, _∙_, _≡_}

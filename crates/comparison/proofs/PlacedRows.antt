@@ -1,6 +1,5 @@
 -- Rows of a set of vertices, in its numbers and among all vertices: products, codes, commutation and the generators of
--- a
--- graph with no edge that leaves the set.
+-- a graph with no edge that leaves the set.
 use mathlib.Core.Bool.{_&&_, Bool, and-false, false, true}
 use mathlib.Core.Logic.{inl, inr, _⊎_}
 use mathlib.Core.Path.{ap, ap₂, refl, sym, _∙_, _≡_}

@@ -1,7 +1,6 @@
 -- For classes that send each generator into the second group up to a sign, the sign equations have a common solution,
--- so
--- their table is exact: signs that satisfy the equations of the first qubits extend to a solution, and what solves all
--- works.
+-- so their table is exact: signs that satisfy the equations of the first qubits extend to a solution, and what solves
+-- all works.
 use mathlib.Core.Bool.{_&&_, Bool, Bool·beq, and-comm, and-false, false, not, true}
 use mathlib.Core.List.{List}
 use mathlib.Core.Logic.{inl, inr, _⊎_}

@@ -1,6 +1,5 @@
 -- The value of a row read off a record: the row sent back through the codes is beside the one element of the graph's
--- group
--- that has its x bits.
+-- group that has its x bits.
 use mathlib.Core.Logic.{inl, inr, _↔_, _⊎_}
 use mathlib.Core.Path.{ap, refl, subst, sym, _∙_, _≡_}
 use Prim.Native.Nat.{_<_, ℕ, _≤_}

@@ -1,6 +1,5 @@
 -- What a step of a run asks: an operation, a measurement with a bit by lot, or a new photon; the fields that it does
--- not use,
--- and its lines in checking order. A job's steps are those with an operation.
+-- not use, and its lines in checking order. A job's steps are those with an operation.
 use mathlib.Core.Bool.{Bool, not, _||_}
 use mathlib.Core.List.{List}
 use Prim.Native.Nat.{_%_, _+_, _/_, ℕ}

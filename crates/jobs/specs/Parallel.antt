@@ -9,8 +9,7 @@ use Rattle.jobs.specs.declared.Op.the-variants.{Complement, Cz, Gate, Me
 use Rattle.jobs.specs.declared.Step.{Step}
 
 -- the operation of a number: 0 gate, 1 cz, 2 measure, 3 complement, 4 pivot, 5 observe, 6 renew; where numbers above 6
--- are
--- not refused, they are a renewal's
+-- are not refused, they are a renewal's
 unfoldable pub numberedOp : ℕ → Op
 numberedOp k =
     cond (eqb k 0) Gate (cond (eqb k 1) Cz (cond (eqb k 2) Measure (cond (eqb k 3) Complement

@@ -14,8 +14,7 @@ abbrev pub floatText : Float → List ℕ
 floatText v = hexText 16 (toBits binary64 v)
 
 -- "y in decimal and the three floats' bits as 16 hexadecimal digits each"; the layout is that of `reduce`: "fields
--- parted
--- by one space, every line ended by a newline"
+-- parted by one space, every line ended by a newline"
 unfoldable pub pointText : ℕ → PlotLine → List ℕ
 pointText y l =
     digits 4 y ++ space ++ floatText (l .re) ++ space ++ floatText (l .im) ++ space ++ floatText (l .p) ++ newline

@@ -1,6 +1,5 @@
 -- CZ on two vertices that are ready for it: the edges between two sets of vertices are flipped. A record of reduced
--- form is
--- reduced again.
+-- form is reduced again.
 use mathlib.Core.Bool.{_&&_, Bool, and-comm, and-false, false, true}
 use mathlib.Core.Logic.{_≢_}
 use mathlib.Core.Path.{ap, ap₂, refl, subst, sym, _∙_, _≡_}

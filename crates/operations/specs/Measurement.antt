@@ -63,8 +63,7 @@ abbrev pub against : ℕ → (ℕ → Pauli) → Pauli → ℕ → Word
 against n rows P g j = anticommute n (rows j) P && not (eqb j g)
 
 -- generators of the group afterwards where P is not determined: row g, which does not commute with P, goes into the
--- others
--- that do not, and P takes its place
+-- others that do not, and P takes its place
 abbrev pub projected : ℕ → (ℕ → Pauli) → Pauli → ℕ → ℕ → Pauli
 projected n rows P g = put (shear n rows g (against n rows P g)) g P
 

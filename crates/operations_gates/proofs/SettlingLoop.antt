@@ -1,6 +1,5 @@
 -- The loop of steps towards the reduced form: the group is kept, every vertex out of place is in the first word, every
--- one
--- that can be by its code in the second, and at its end none is out of place.
+-- one that can be by its code in the second, and at its end none is out of place.
 use mathlib.Core.Bool.{_&&_, Bool, false, not, or-true, true, true≢false, _||_}
 use mathlib.Core.List.{List}
 use mathlib.Core.Logic.{inl, inr}

@@ -1,6 +1,5 @@
 -- What the steps leave as it was: every vertex but the one of the step and its neighbours, and of their codes whether
--- they
--- are odd, or 8 or more.
+-- they are odd, or 8 or more.
 use mathlib.Core.Bool.{_&&_, and-false, cond, false, not, true, true≢false}
 use mathlib.Core.List.{List}
 use mathlib.Core.Path.{ap, ap₂, refl, subst, sym, _∙_, _≡_}

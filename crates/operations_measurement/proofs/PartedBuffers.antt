@@ -1,6 +1,5 @@
 -- A record rewritten without the edges at a vertex, and Z measured there: the buffers are those of the two steps, of
--- which
--- the second isolates the vertex, one after another.
+-- which the second isolates the vertex, one after another.
 use mathlib.Core.Bool.{_&&_, Bool, Bool·beq, and-false, cond, false, not}
 use mathlib.Core.List.{List}
 use mathlib.Core.Path.{ap, fun-ext, refl, subst, sym, _∙_, _≡_}

@@ -1,6 +1,5 @@
 -- A pivot on an edge q, k without the edges at q: those between the neighbours of q and the closed neighbourhood of k
--- are
--- flipped, and the neighbours that q has after the pivot are k and its other neighbours.
+-- are flipped, and the neighbours that q has after the pivot are k and its other neighbours.
 use mathlib.Core.Bool.{_&&_, Bool, cond, not, true, _||_}
 use mathlib.Core.List.{List}
 use mathlib.Core.Path.{ap, ap₂, fun-ext, refl, sym, _∙_, _≡_}
@@ -35,8 +34,7 @@ use Rattle.words.specs.Bits.{bit, sameBit, _⊕_}
 use Rattle.operations_measurement.proofs.RemovedEdges.{partedFrom}
 
 -- ---- at two places x and y; the bits say: J and K, x is q, k; J′ and K′, y is; t, they are joined; a and b, q is
--- joined
--- to x, y; c and d, k is. In a simple graph where q and k are joined:
+-- joined to x, y; c and d, k is. In a simple graph where q and k are joined:
 abbrev known : Bool → Bool → Bool → Bool → Bool → Bool → Bool → Bool
 known J J′ t a b c d = (not J || (not a && (c && sameBit t b))) && (not J′ || (not b && (d && sameBit t a)))
 

@@ -66,8 +66,7 @@ around-more n g a A h e B =
 
 -- ---- the search
 -- the marked numbers are reached from g, and those of the first `head` places are followed; the search began with
--- list₀,
--- which had tail₀ numbers
+-- list₀, which had tail₀ numbers
 pub record Following (n g : ℕ) (list₀ : List ℕ) (tail₀ : ℕ) (marks list : List ℕ) (tail head : ℕ) : Type 0 where
   pub queue : Queue marks list tail
   pub since : tail₀ ≤ tail

@@ -1,6 +1,5 @@
 -- The generators of a record, changed by a row that is not determined: they can be reduced, and their reduced record is
--- that
--- of the group after the measurement.
+-- that of the group after the measurement.
 use mathlib.Core.Bool.{Bool, _&&_, cond, false, not, true}
 use mathlib.Core.List.{List}
 use mathlib.Core.Path.{ap, ap₂, subst, sym, _∙_, _≡_}

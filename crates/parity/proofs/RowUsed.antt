@@ -1,6 +1,5 @@
 -- A used qubit on which the row does not act stays as it is: its Pauli commutes with the row, and so in the new record
--- it
--- has no neighbour and the code that it had.
+-- it has no neighbour and the code that it had.
 use mathlib.Core.Bool.{Bool, false, or-false, true}
 use mathlib.Core.Path.{ap, ap₂, refl, subst, sym, _∙_, _≡_}
 use Prim.Native.Nat.{_<_, _^_, ℕ}

@@ -13,15 +13,13 @@ abbrev pub rowValue : ℕ → (ℕ → Pauli) → ℕ → ℕ → ℕ
 rowValue n rows z x = stabilizerValue n rows (signedRow false z x)
 
 -- what is answered: "determined exactly if the row or its negative is in the group", with its sign; "otherwise the
--- outcome
--- is the bit"
+-- outcome is the bit"
 abbrev pub rowOutcome : ℕ → (ℕ → Pauli) → ℕ → ℕ → Bool → Outcome
 rowOutcome n rows z x b =
     cond (eqb (rowValue n rows z x) 2) (Chosen b) (Determined (eqb (rowValue n rows z x) 1))
 
 -- generators of the group afterwards: those before where it is determined; otherwise of "the elements that commute with
--- the
--- row, joined by the row with that sign"
+-- the row, joined by the row with that sign"
 abbrev pub rowMeasured : ℕ → (ℕ → Pauli) → ℕ → ℕ → Bool → ℕ → Pauli
 rowMeasured n rows z x b =
     cond (eqb (rowValue n rows z x) 2)

@@ -1,6 +1,5 @@
 -- The four places of a party in a store of eight, after a place of the eight is written: a place of the party is
--- written
--- there, and a place of the other party leaves them.
+-- written there, and a place of the other party leaves them.
 use mathlib.Core.List.{_++_, List, append-assoc}
 use mathlib.Core.Logic.{inl, inr}
 use mathlib.Core.Path.{ap, ap₂, subst, sym, _∙_, _≡_}

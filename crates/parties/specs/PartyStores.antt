@@ -1,6 +1,5 @@
 -- "Each holds four named states of its own part" (02, §13): the places of a party in one store of eight, the lines of
--- its
--- save, return and forget, and what each leaves.
+-- its save, return and forget, and what each leaves.
 use mathlib.Core.Bool.{_&&_, Bool, not, _||_}
 use mathlib.Core.List.{_++_, List, [], _∷_}
 use Prim.Native.Nat.{_*_, _+_, ℕ}

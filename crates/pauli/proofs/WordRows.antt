@@ -80,8 +80,7 @@ pub exponent-mod : (k : ℕ) → exponent (power k) ≡ k % 4
 exponent-mod k = ap exponent (sym (power-mod k)) ∙ exponent-power (k % 4) (mod-lt k (lit< tt))
 
 -- ---- the phase of a product: i for each place where both act and differ, and minus one more for each of
--- these
--- where the letters stand in falling order: YX, ZY and XZ
+-- these where the letters stand in falling order: YX, ZY and XZ
 abbrev pub clashWord : ℕ → ℕ → ℕ → ℕ → ℕ
 clashWord z x z′ x′ = bitXor (bitAnd z x′) (bitAnd x z′)
 

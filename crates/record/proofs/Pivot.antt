@@ -15,8 +15,7 @@ use Rattle.record.specs.internal.Joined.{closed, joinedBy}
 use Rattle.record.specs.internal.NeighbourWords.{SameGraph}
 
 -- ---- at two places x and y; the bits say: J and K, x is j, k; J′ and K′, y is; E, x is y; t, they are joined; a and
--- b,
--- j is joined to x, y; c and d, k is. In a simple graph where j and k are joined:
+-- b, j is joined to x, y; c and d, k is. In a simple graph where j and k are joined:
 abbrev atEnd : Bool → Bool → Bool → Bool → Bool → Bool → Bool → Bool
 atEnd J a c t b E H = not J || (not a && (c && (sameBit t b && sameBit E H)))
 

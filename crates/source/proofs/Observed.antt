@@ -1,6 +1,5 @@
 -- An observation is a measurement: with the outcome that it answers as bit, that of the state where the state
--- determines
--- it and the bit supplied otherwise, the measurement is accepted, and answers and leaves the same.
+-- determines it and the bit supplied otherwise, the measurement is accepted, and answers and leaves the same.
 use mathlib.Core.Bool.{_&&_, Bool, and-false, cond, false, true, _||_}
 use mathlib.Core.List.{[]}
 use mathlib.Core.Path.{ap, refl, sym, _∙_, _≡_}

@@ -1,6 +1,5 @@
 -- A party's observation has the lines of a gate at its qubit, and accepted it is the party's measurement with the
--- outcome
--- that it answers.
+-- outcome that it answers.
 use mathlib.Core.Bool.{Bool, cond, false, not, true, _||_}
 use mathlib.Core.List.{List}
 use mathlib.Core.Path.{ap, refl, sym, _∙_, _≡_}

@@ -1,6 +1,5 @@
 -- The record after a renewal: its buffers hold the old record with another code at one vertex, no line refuses it, and
--- it
--- is of reduced form where the old one was.
+-- it is of reduced form where the old one was.
 use mathlib.Core.Bool.{_&&_, and-true, false, not, or-false, true, true≢false}
 use mathlib.Core.Logic.{_≢_, inl, inr}
 use mathlib.Core.Path.{ap, ap₂, refl, subst, sym, _∙_, _≡_}

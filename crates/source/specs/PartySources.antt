@@ -1,6 +1,5 @@
 -- A party's observation and renewal on a shared record: their lines, and what an observation leaves. A renewal leaves
--- what it
--- leaves of the whole record: it changes one qubit of the party.
+-- what it leaves of the whole record: it changes one qubit of the party.
 use mathlib.Core.Bool.{_||_}
 use mathlib.Core.List.{List}
 use Prim.Native.Nat.{ℕ}

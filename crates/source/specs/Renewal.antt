@@ -24,8 +24,7 @@ pub data Renewed (n : ℕ) (G : Pauli → Type 0) (q : ℕ) (P : Pauli) : Pauli 
   joined : {p : Pauli} → G p → letterAt p q ≡ I → Renewed n G q P (mul n p P)
 
 -- the lines of the call. 6: the code is none of 0, 2, 4, 6, 8 and 10; 8: "A qubit number is n or more"; 20: "the qubit
--- to
--- renew is not used"
+-- to renew is not used"
 abbrev pub renewLines : UsedRecord → ℕ → ℕ → List Refusal
 renewLines u q k =
     usedLines u false false (not (usedCode k)) ++ (line 8 (leb (u .held .n) q) ∷ line 20 (not (bit (u .used) q)) ∷ [])

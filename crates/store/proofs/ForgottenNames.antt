@@ -1,6 +1,5 @@
 -- What is held under each name after a forget: nothing under the name, and under every other name what was held before.
--- No
--- line refuses the store then.
+-- No line refuses the store then.
 use mathlib.Core.Bool.{_&&_, cond, false, not, true, true≢false}
 use mathlib.Core.Logic.{_≢_}
 use mathlib.Core.Path.{_∙_, _≡_, ap, ap₂, subst, sym}

@@ -1,6 +1,5 @@
 -- The lines of a store of k places in the documents' words: "its held records are checked like any other, and a name
--- held
--- twice in it gives 7" (02, §12).
+-- held twice in it gives 7" (02, §12).
 use mathlib.Core.Bool.{true}
 use mathlib.Core.List.{_++_, List, [], _∷_}
 use mathlib.Core.Logic.{_≢_, _⊎_}

@@ -1,6 +1,5 @@
 -- Decimal numbers: their digits one more at the low end and back to the number; numerals of any size, and how many
--- places
--- they take.
+-- places they take.
 use mathlib.Core.Path.{_≡_, refl, ap, ap₂, _∙_, subst}
 use mathlib.Core.Bool.{Bool, cond, false, true}
 use mathlib.Core.List.{List, [], _∷_, _++_}

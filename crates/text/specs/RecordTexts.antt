@@ -1,6 +1,5 @@
 -- Records as texts: the print of `reduce`, the names and a line a qubit, and the record that a text stands for. Bytes
--- are
--- numbers: 10 ends a line, 32 is the space, 48 the digit 0, 49 the digit 1.
+-- are numbers: 10 ends a line, 32 is the space, 48 the digit 0, 49 the digit 1.
 use mathlib.Core.Bool.{_&&_, Bool, cond}
 use mathlib.Core.List.{_++_, List, []}
 use mathlib.Core.Path.{_≡_}
@@ -18,8 +17,7 @@ abbrev pub numeral : ℕ → List ℕ
 numeral v = digits (suc v) v
 
 -- "a code has one or two decimal digits without a leading zero", "16 lower-case hexadecimal digits", "the last column
--- is 0
--- or 1"
+-- is 0 or 1"
 unfoldable pub columns : RecordLine → List ℕ
 columns l = decimal (l .code) ++ space ++ hexText 16 (l .word) ++ usedColumn (l .used)
 

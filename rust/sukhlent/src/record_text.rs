@@ -31,7 +31,7 @@ pub fn write_record(record: &Record) -> Result<String, Refusal> {
 
 /// The record of a text that is byte for byte as [`write_record`] writes it.
 ///
-/// Refusals: 1 (the text does not have this form), 2 (it has the names alone, or more than 64 lines),
+/// Refusals: 1 (the text does not have this form), 2 (it has the names alone, or more than 64 qubits),
 /// 5, 6 (a code from 24 to 99), 7.
 ///
 /// ```

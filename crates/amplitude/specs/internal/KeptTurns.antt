@@ -1,6 +1,5 @@
 -- Support and turns of a word, read off a record of reduced form: an equation for each vertex with a Hadamard, and a
--- sum
--- over the vertices without one.
+-- sum over the vertices without one.
 use mathlib.Core.Bool.{_&&_, Bool, cond, false, not, _||_}
 use Prim.Native.Nat.{ℕ}
 use Rattle.clifford.specs.Clifford.{Clifford, bitC, image}

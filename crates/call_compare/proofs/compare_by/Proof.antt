@@ -1,6 +1,5 @@
 -- `compare_by` meets its contract: the least choice that carries the group of the first list onto that of the second,
--- and
--- the complementations that turn the first reduced graph into the second.
+-- and the complementations that turn the first reduced graph into the second.
 use mathlib.Core.Bool.{_||_}
 use mathlib.Core.Path.{ap₂, refl, sym, _∙_}
 use borrow.Author.Needs.{needs}

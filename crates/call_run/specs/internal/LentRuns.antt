@@ -1,6 +1,5 @@
 -- What the run of lent steps promises: the record after the last, and what each answers, kept as one number. A name
--- with
--- a prime is what the buffer holds at exit, or the word that is returned.
+-- with a prime is what the buffer holds at exit, or the word that is returned.
 use mathlib.Core.Bool.{Bool, cond}
 use mathlib.Core.List.{List, [], _∷_}
 use mathlib.Core.Path.{_≡_}

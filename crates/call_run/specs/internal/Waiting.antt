@@ -1,6 +1,5 @@
 -- Records that stand for the reduced record of their group, and what a step on one promises. A name with a prime is
--- what
--- the buffer, or the lent number, holds at exit.
+-- what the buffer, or the lent number, holds at exit.
 use mathlib.Core.Bool.{Bool, cond, true}
 use mathlib.Core.List.{List}
 use Prim.Native.Nat.{ℕ}

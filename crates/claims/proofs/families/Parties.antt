@@ -1,6 +1,5 @@
 -- Two parties on one record: the lines and answers of a party's calls are as demand 1 has them, and which arguments
--- they
--- accept.
+-- they accept.
 use mathlib.Core.Bool.{false, not, _||_}
 use mathlib.Core.List.{List}
 use mathlib.Core.Logic.{Iff·trans, _↔_}

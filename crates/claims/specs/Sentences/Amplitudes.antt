@@ -1,6 +1,5 @@
 -- What the documents say of the exported function on amplitudes, in one record: demand 1, which arguments it accepts,
--- and
--- the sentences of the request that speak of its answer.
+-- and the sentences of the request that speak of its answer.
 use mathlib.Core.Logic.{_↔_}
 use mathlib.Core.Path.{_≡_}
 use Prim.Native.Nat.{ℕ}

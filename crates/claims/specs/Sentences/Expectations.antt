@@ -1,6 +1,5 @@
 -- What the documents say of the exported function that answers the value of a row, in one record: demand 1, which
--- arguments
--- it accepts, and the sentences that speak of its answer.
+-- arguments it accepts, and the sentences that speak of its answer.
 use mathlib.Core.Logic.{_↔_}
 use mathlib.Core.Path.{_≡_}
 use Prim.Native.Nat.{ℕ}

@@ -1,6 +1,5 @@
 -- What the documents say of each exported function on lists and on texts of Pauli strings, in one record: demand 1,
--- which arguments it
--- accepts, and the sentences of the demands and of the requests that speak of its answer.
+-- which arguments it accepts, and the sentences of the demands and of the requests that speak of its answer.
 use mathlib.Core.List.{List}
 use mathlib.Core.Logic.{_↔_}
 use mathlib.Core.Path.{_≡_}

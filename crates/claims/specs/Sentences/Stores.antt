@@ -1,8 +1,6 @@
 -- What the documents say of the exported functions on a store of named states, a record for each: demand 1, which
--- arguments
--- it accepts, its own refusal, and the sentences of the request that speak of its answer. That it is an action of a
--- session is
--- a theorem of its own (`ContractsAreActions`).
+-- arguments it accepts, its own refusal, and the sentences of the request that speak of its answer. That it is an
+-- action of a session is a theorem of its own (`ContractsAreActions`).
 use mathlib.Core.Bool.{false, _||_}
 use mathlib.Core.List.{List}
 use mathlib.Core.Logic.{_↔_}

@@ -43,8 +43,7 @@ abbrev pub Own : ℕ → ℕ → ℕ → Type 0
 Own word g q = inParty word g q ≡ true
 
 -- the party's four places in a store of eight: each state held there has 64 qubits and no neighbour outside the party,
--- and
--- no name is held twice
+-- and no name is held twice
 pub record OwnStates (word g : ℕ) (st : Store) : Type 0 where
   pub heads : length (st .heads) ≡ 24
   pub neighbours : length (st .neighbours) ≡ 512

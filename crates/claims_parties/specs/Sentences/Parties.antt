@@ -1,8 +1,6 @@
 -- What the documents say of the exported functions of a party (02, §13), a record for each: demand 1, which arguments
--- it
--- accepts, what it leaves of the other party, and that its answer stands for what the whole-record call leaves. That
--- each is a
--- step of the runs of `NonInterference` is a theorem of its own (`ContractsAreSteps`).
+-- it accepts, what it leaves of the other party, and that its answer stands for what the whole-record call leaves. That
+-- each is a step of the runs of `NonInterference` is a theorem of its own (`ContractsAreSteps`).
 use mathlib.Core.List.{List, [], _∷_}
 use mathlib.Core.Logic.{_↔_, _⊎_}
 use mathlib.Core.Path.{_≡_}

@@ -8,8 +8,7 @@ use Rattle.words.specs.Bits.{bit}
 use Rattle.clifford_impl.specs.declared.rows.Action.{Action}
 
 -- the diagonals of the blocks A, B, C, D of the codes' binary matrix, which are the z bits (A, B) and the x bits (C, D)
--- of
--- the images of Z (A, C) and of X (B, D), and the signs of the images of X, Y and Z
+-- of the images of Z (A, C) and of X (B, D), and the signs of the images of X, Y and Z
 pub record ActsAs (k : ℕ → Clifford) (w : Action) : Type 0 where
   pub A : (q : ℕ) → q < 64 → bit (w .a) q ≡ zBit (image (k q) Z)
   pub B : (q : ℕ) → q < 64 → bit (w .b) q ≡ zBit (image (k q) X)

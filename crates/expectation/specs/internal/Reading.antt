@@ -1,6 +1,5 @@
 -- The value of a row read off a graph record: the row sent back through the codes, beside the one element of the
--- graph's
--- group that has its x bits.
+-- graph's group that has its x bits.
 use mathlib.Core.Bool.{cond}
 use Prim.Native.Nat.{ℕ}
 use lib.Dec.{eqb}

@@ -7,8 +7,7 @@ use Rattle.jobs.specs.declared.Op.{Op}
 use Rattle.jobs.specs.declared.Op.the-variants.{Complement, Cz, Gate, Measure, Observe, Pivot, Renew}
 
 -- the value is no code, or for a measurement no Pauli and outcome: line 6 of its call. Of a renewal's code its parity
--- is
--- not looked at
+-- is not looked at
 abbrev pub wrongValue : Op → ℕ → Bool
 wrongValue Gate value = leb 24 value
 wrongValue Cz value = false

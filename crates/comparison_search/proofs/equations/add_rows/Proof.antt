@@ -1,6 +1,5 @@
 -- `add_rows` meets its contract: an equation with those equations of the table added whose last unknown is unknown l of
--- a
--- marked qubit.
+-- a marked qubit.
 use mathlib.Core.List.{[]}
 use mathlib.Core.Path.{refl, sym}
 use Prim.Native.Nat.{_*_, _+_, _<_, _^_}
