@@ -3,7 +3,7 @@ use buffers::copy_bytes;
 use buffers::copy_list;
 use buffers::copy_words;
 use buffers::other_than;
-use image_impl::answer::image_answer;
+use image_impl::answer::image_in;
 use record_impl::checks::record_refusal;
 ghost use Rattle.buffers.specs.Calls.{Call};
 ghost use Rattle.calls.specs.Images.{imageCall};
@@ -30,16 +30,23 @@ pub fn image(
     if early != 0 {
         return early;
     }
-    let answer = image_answer(n as usize, neighbours, codes);
-    if answer.number != 0 {
-        return answer.number;
+    let k = n as usize;
+    let mut graph = [0u64; 64];
+    let mut minus = [0u8; 64];
+    let mut vertices = [0u8; 96];
+    let told = image_in(
+        neighbours,
+        codes,
+        &mut graph[..k],
+        &mut minus[..k],
+        &mut vertices,
+    );
+    if told.number != 0 {
+        return told.number;
     }
-    let words = answer.graph;
-    let minus = answer.signs;
-    let vertices = answer.list;
-    copy_words(words, image);
+    copy_words(graph, image);
     copy_bytes(minus, signs);
-    copy_list(vertices, answer.count, list);
-    *count = answer.count as u64;
+    copy_list(vertices, told.count, list);
+    *count = told.count as u64;
     0
 }

@@ -95,7 +95,7 @@ fn image_number(c: u64, y: u64) -> u8
 
 // The image in lent buffers. The record is copied and the rule runs on the copy, whose words become the image graph;
 // the signs are written over its codes. X goes to Y where the image of X has both a z bit and an x bit.
-fn image_in(
+pub fn image_in(
     neighbours: &[u64],
     codes: &[u8],
     words: &mut [u64],
