@@ -8,7 +8,9 @@ pub mod VectorLaws
 pub mod RatioExamples
 pub mod Answers
 pub mod CountedWords
+pub mod MeasuredWords
 pub mod LowestWord
 pub mod KeptRows
 pub mod KeptRatios
+pub mod LowestOfRecord
 pub mod AnswerByRecord

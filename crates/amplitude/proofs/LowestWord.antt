@@ -1,27 +1,28 @@
--- The smallest word that satisfies equations, each kept at its smallest bit: a bit is 1 only where its equation asks
--- for it.
-use mathlib.Core.Bool.{◌&&◌, Bool, and-false, false, true, true≢false}
-use mathlib.Core.List.{List}
+-- The outcomes of Z measured from the last qubit down, 0 where it is possible, are the smallest supported word.
+use mathlib.Core.Bool.{◌&&◌, Bool, cond, false, true}
 use mathlib.Core.Logic.{◌↔◌, ◌⊎◌, inl, inr}
-use mathlib.Core.Path.{◌∙◌, ◌≡◌, ap, ap₂, refl, sym}
+use mathlib.Core.Path.{◌∙◌, ◌≡◌, ap, refl, sym}
 use Prim.Native.Nat.{◌%◌, ◌+◌, ◌-◌, ◌/◌, ◌<◌, ◌^◌, suc, zero, ℕ, ◌≤◌}
 use native.Mathlib.Nat.{div-mul-le_self, le-div_iff_mul-le, le_refl, le_trans}
 use native.Mathlib.Omega.{arith}
-use lib.Arith.{lt_of_le-ne}
-use lib.Bits.{bit_xor, xor_lt}
-use lib.ListN.{get_or}
 use lib.Pow.{pow_pos}
-use Rattle.words.proofs.BitLaws.{bit-above, bit-ext∞, bit-shr, bit-suc, bit-xor, digit-odd, lt-of-bits}
-use Rattle.words.proofs.Finite.{⊕-self}
+use Rattle.operations.specs.Measurement.{contradicts, is_determined, measured_rows, single}
+use Rattle.pauli.specs.Pauli.{Pauli}
+use Rattle.pauli.specs.declared.Letter.{Letter}
+use Rattle.pauli.specs.declared.Letter.TheVariants.{Z}
+use Rattle.stabilizer.proofs.GroupLaws.{same-sym}
+use Rattle.stabilizer.specs.Membership.{member}
+use Rattle.words.proofs.BitLaws.{bit-above, bit-ext, bit-ext∞, bit-shr, bit-suc, bit-word_of, digit-odd, word_of-lt}
 use Rattle.words.proofs.Flags.{never_true}
-use Rattle.words.proofs.OnesLaws.{dot-bits, dot-xor-r}
-use Rattle.words.proofs.Places.{⊕-cancel}
 use Rattle.words.proofs.SearchLaws.{first-unique}
-use Rattle.words.proofs.Sums.{bit_monoid, fold-one, lt-or-ge}
-use Rattle.words.specs.Bits.{◌⊕◌, bit, digit, parity}
-use Rattle.words.specs.Search.{first}
-use Rattle.words.specs.internal.Bits.{dot}
-use Rattle.amplitude.specs.internal.SupportEquations.{KeptAtSmallest, Satisfies}
+use Rattle.words.proofs.Sums.{lt-or-ge}
+use Rattle.words.specs.Bits.{Word, ◌⊕◌, bit, digit, word_of}
+use Rattle.amplitude.proofs.Existence.{lowest-supported}
+use Rattle.amplitude.proofs.MeasuredWords.{forbidden-bit, supported-measured}
+use Rattle.amplitude.proofs.Support.{supported-exactly, supported-ext, supported-of-group}
+use Rattle.amplitude.specs.internal.Measuring.{MeasuredDown}
+use Rattle.amplitude.specs.internal.Ratios.{Supported}
+use Rattle.amplitude.specs.Ratios.{lowest, is_supported}
 
 -- ---- the highest bit where two numbers differ decides
 pub bit-less : (a c q : ℕ) → bit a q ≡ false → bit c q ≡ true → ((t : ℕ) → q < t → bit a t ≡ bit c t) → a < c
@@ -48,88 +49,119 @@ bit-less a c q ea ec above = elim (lt-or-ge a c) [
         sym (bit-suc (a / 2 ^ q) t) ∙ bit-shr a q (suc t) ∙ above (q + suc t) (omega arith)
         ∙ sym (bit-shr c q (suc t)) ∙ bit-suc (c / 2 ^ q) t)
 
--- a key is one of the bits
-pub key_below : {n keys : ℕ} {rows : List ℕ} → KeptAtSmallest n rows keys → (b : ℕ) → bit keys b ≡ true → b < n
-key_below {n} {keys} {rows} K b e = elim (lt-or-ge b n) [
-  | inl l ↦ l
-  | inr l ↦ absurd (true≢false (sym (K.own b e) ∙ bit-above n (get_or rows b 0) (K.below b e) b l))
-]
+-- ---- the outcome that is taken is possible
+possible : (n : ℕ) (R : ℕ → Pauli) (l : Letter) (q : ℕ) → contradicts n R l q (contradicts n R l q false) ≡ false
+possible n R l q = go (is_determined n R l q) (member n R (single l q true))
+  where
+    go : (d m : Bool) → (d && (cond d m (d && (cond d m false ⊕ false)) ⊕ (d && (cond d m false ⊕ false)))) ≡ false
+    go false m = refl
+    go true false = refl
+    go true true = refl
 
-module _ (n : ℕ) (rows : List ℕ) (keys odds : ℕ) (K : KeptAtSmallest n rows keys) (f : ℕ → Bool)
-    (same : (y : ℕ) → Satisfies rows keys odds y ↔ (f y ≡ true)) (low : ℕ) (L : Satisfies rows keys odds low)
-    (elsewhere : (b : ℕ) → bit keys b ≡ false → bit low b ≡ false) where
-  low_below : low < 2 ^ n
-  low_below = lt-of-bits n low (λ q l. elsewhere q (never_true (bit keys q) (λ e. absurd (omega (
-    arith,
-    l,
-    key_below K q e,
-  )))))
+module _ (n : ℕ) (R : ℕ → Pauli) (down : ℕ → ℕ → Pauli) (forced : Word) (M : MeasuredDown n R down forced) where
+  -- supported, and the outcomes so far
+  abbrev Left : ℕ → Word → Type 0
+  Left k y = Supported n R y × ((t : ℕ) → n - k ≤ t → t < n → y t ≡ forced t)
 
-  module _ (y : ℕ) (below : y < 2 ^ n) (H : Satisfies rows keys odds y) where
-    -- the bit at a key is decided by those above it
-    decided : (b : ℕ) → bit keys b ≡ true → ((t : ℕ) → b < t → bit low t ≡ bit y t) → bit low b ≡ bit y b
-    decided b e above = ⊕-cancel (bit low b) (bit y b) (sym (bit-xor low y b) ∙ sym only ∙ sym through ∙ none)
+  -- the outcome that is taken is possible
+  taken : (k : ℕ) → k < n → contradicts n (down k) Z (n - suc k) (forced (n - suc k)) ≡ false
+  taken k l = ap (contradicts n (down k) Z (n - suc k)) (M.outcome k l) ∙ possible n (down k) Z (n - suc k)
+
+  one_more : (k : ℕ) → k < n → (y : Word) → Supported n (down k) y ↔ Left k y
+      → Supported n (down (suc k)) y ↔ Left (suc k) y
+  one_more k l y ih = (
+    (λ H. forth (step.0 (supported-of-group n _ _ (same-sym (M.each k l)) y H))),
+    (λ H. supported-of-group n _ _ (M.each k l) y (step.1 (back H))),
+  )
+    where
+      step : Supported n (measured_rows n (down k) Z (n - suc k) (forced (n - suc k))) y
+          ↔ (Supported n (down k) y × (y (n - suc k) ≡ forced (n - suc k)))
+      step = supported-measured n (n - suc k) (omega arith) (down k) (M.proper k (omega arith))
+          (forced (n - suc k)) (taken k l) y
+
+      forth : Supported n (down k) y × (y (n - suc k) ≡ forced (n - suc k)) → Left (suc k) y
+      forth H = (
+        (ih.0 H.0).0,
+        λ t a b. elim (lt-or-ge t (n - k)) [
+          | inr c ↦ (ih.0 H.0).1 t c b
+          | inl c ↦ (let e : t ≡ n - suc k = omega (arith, a, c) in ap y e ∙ H.1 ∙ ap forced (sym e))
+        ],
+      )
+
+      back : Left (suc k) y → Supported n (down k) y × (y (n - suc k) ≡ forced (n - suc k))
+      back H = (
+        ih.1 (H.0, λ t a b. H.1 t (omega (arith, a)) b),
+        H.1 (n - suc k) (le_refl (n - suc k)) (omega arith),
+      )
+
+  -- the words that are left
+  pub left-words : (k : ℕ) → k ≤ n → (y : Word)
+      → Supported n (down k) y ↔ (Supported n R y × ((t : ℕ) → n - k ≤ t → t < n → y t ≡ forced t))
+  left-words zero l y = (
+    (λ H. (supported-of-group n _ _ (same-sym M.start) y H, λ t a b. absurd (omega (arith, a, b)))),
+    (λ H. supported-of-group n _ _ M.start y H.0),
+  )
+  left-words (suc k) l y = one_more k l y (left-words k (omega arith) y)
+
+  -- all measured: one word is left
+  forced-supported : Supported n R forced
+  forced-supported =
+      let D = M.proper n (le_refl n) in
+      let H = (left-words n (le_refl n) (bit (lowest n (down n)))).0 (lowest-supported n (down n) D) in
+      supported-ext n R (bit (lowest n (down n))) forced (λ t l. H.1 t (omega arith) l) H.0
+
+  abbrev least : ℕ
+  least = word_of n forced
+
+  -- a supported word agrees with it from the top, or is larger
+  abbrev Agrees : ℕ → ℕ → Type 0
+  Agrees j k = (t : ℕ) → n - k ≤ t → t < n → bit j t ≡ forced t
+
+  module _ (j : ℕ) (below : j < 2 ^ n) (H : Supported n R (bit j)) where
+    agrees-more : (k : ℕ) → k < n → Agrees j k → Agrees j (suc k) ⊎ (least < j)
+    agrees-more k l A = split (forced (n - suc k)) refl (bit j (n - suc k)) refl
       where
-        row : ℕ
-        row = get_or rows b 0
-
-        none : dot (get_or rows b 0) (bit_xor low y) ≡ false
-        none = dot-xor-r (get_or rows b 0) low y ∙ ap₂ ◌⊕◌ (L.each b e) (H.each b e) ∙ ⊕-self (bit odds b)
-
-        through : dot (get_or rows b 0) (bit_xor low y) ≡ parity n (λ q. bit (get_or rows b 0) q && bit (bit_xor low y) q)
-        through = dot-bits n (get_or rows b 0) (bit_xor low y) (K.below b e) (xor_lt n low y low_below below)
-
-        only : parity n (λ q. bit (get_or rows b 0) q && bit (bit_xor low y) q) ≡ bit (bit_xor low y) b
-        only = fold-one false ◌⊕◌ bit_monoid n b (key_below K b e) (λ q l d. elsewhere-none q d)
-            ∙ ap (λ v. v && bit (bit_xor low y) b) (K.own b e)
-          where
-            elsewhere-none : (q : ℕ) → (q ≡ b → ⊥) → (bit (get_or rows b 0) q && bit (bit_xor low y) q) ≡ false
-            elsewhere-none q d = elim (lt-or-ge q b) [
-              | inl l ↦ ap (λ v. v && bit (bit_xor low y) q) (K.none-less b q e l)
-              | inr l ↦ ap (λ v. bit (get_or rows b 0) q && v) (bit-xor low y q
-                  ∙ ap (λ v. v ⊕ bit y q) (above q (lt_of_le-ne l (λ g. d (sym g)))) ∙ ⊕-self (bit y q))
-                  ∙ and-false (bit (get_or rows b 0) q)
-            ]
-
-    -- it agrees with the smallest one from the top, or is larger
-    abbrev Agrees : ℕ → Type 0
-    Agrees k = (t : ℕ) → n - k ≤ t → bit low t ≡ bit y t
-
-    agrees-more : (k : ℕ) → k < n → Agrees k → Agrees (suc k) ⊎ (low < y)
-    agrees-more k l A = split (bit keys (n - suc k)) refl (bit y (n - suc k)) refl
-      where
-        above : (t : ℕ) → n - suc k < t → bit low t ≡ bit y t
-        above t a = A t (omega (arith, a))
-
-        here : bit low (n - suc k) ≡ bit y (n - suc k) → Agrees (suc k)
-        here e t a = elim (lt-or-ge (n - suc k) t) [
-          | inl c ↦ above t c
-          | inr c ↦ (let g : t ≡ n - suc k = omega (arith, a, c) in ap (bit low) g ∙ e ∙ ap (bit y) (sym g))
+        here : bit j (n - suc k) ≡ forced (n - suc k) → Agrees j (suc k)
+        here e t a b = elim (lt-or-ge t (n - k)) [
+          | inr c ↦ A t c b
+          | inl c ↦ (let f : t ≡ n - suc k = omega (arith, a, c) in ap (bit j) f ∙ e ∙ ap forced (sym f))
         ]
 
-        split : (c : Bool) → bit keys (n - suc k) ≡ c → (v : Bool) → bit y (n - suc k) ≡ v
-            → Agrees (suc k) ⊎ (low < y)
-        split true e v h = inl (here (decided (n - suc k) e above))
-        split false e false h = inl (here (elsewhere (n - suc k) e ∙ sym h))
-        split false e true h = inr (bit-less low y (n - suc k) (elsewhere (n - suc k) e) h above)
+        above : (t : ℕ) → n - suc k < t → bit least t ≡ bit j t
+        above t a = elim (lt-or-ge t n) [
+          | inl b ↦ bit-word_of n forced t b ∙ sym (A t (omega (arith, a)) b)
+          | inr b ↦ bit-above n least (word_of-lt n forced) t b ∙ sym (bit-above n j below t b)
+        ]
 
-    agrees : (k : ℕ) → k ≤ n → Agrees k ⊎ (low < y)
-    agrees zero l = inl (λ t a. let m : n ≤ t = omega (arith, a) in
-        bit-above n low low_below t m ∙ sym (bit-above n y below t m))
+        split : (f : Bool) → forced (n - suc k) ≡ f → (v : Bool) → bit j (n - suc k) ≡ v → Agrees j (suc k) ⊎
+            (least < j)
+        split false e false h = inl (here (h ∙ sym e))
+        split false e true h = inr (bit-less least j (n - suc k)
+            (bit-word_of n forced (n - suc k) (omega arith) ∙ e) h above)
+        split true e v h = inl (here (forbidden-bit n (n - suc k) (omega arith) (down k)
+            (M.proper k (omega arith)) (sym (M.outcome k l) ∙ e) (bit j)
+            ((left-words k (omega arith) (bit j)).1 (H, A)) ∙ sym e))
+
+    agrees : (k : ℕ) → k ≤ n → Agrees j k ⊎ (least < j)
+    agrees zero l = inl (λ t a b. absurd (omega (arith, a, b)))
     agrees (suc k) l = elim (agrees k (omega arith)) [
       | inl A ↦ agrees-more k l A
       | inr b ↦ inr b
     ]
 
-    not-less : y < low → ⊥
-    not-less l = elim (agrees n (le_refl n)) [
-      | inl A ↦ (let e = bit-ext∞ low y (λ q. A q (omega arith)) in omega (arith, e, l))
-      | inr b ↦ omega (arith, b, l)
-    ]
-
-  pub lowest-satisfies : first (2 ^ n) f ≡ low
-  lowest-satisfies = first-unique (2 ^ n) f low (record {
-    below = low_below;
-    passes = (same low).0 L;
-    least = λ y l. never_true (f y) (λ e. not-less y (omega (arith, l, low_below)) ((same y).1 e) l);
+  pub lowest-by-measuring : lowest n R ≡ word_of n forced
+  lowest-by-measuring = first-unique (2 ^ n) (is_supported n R) least (record {
+    below = word_of-lt n forced;
+    passes = (supported-exactly n R least).1
+        (supported-ext n R forced (bit least) (λ q l. sym (bit-word_of n forced q l)) forced-supported);
+    least = λ j l. never_true (is_supported n R j) (λ e. none j l ((supported-exactly n R j).0 e));
   })
+    where
+      none : (j : ℕ) → j < least → Supported n R (bit j) → ⊥
+      none j l H =
+          let below : j < 2 ^ n = omega (arith, l, word_of-lt n forced) in
+          elim (agrees j below H n (le_refl n)) [
+            | inl A ↦ (let e = bit-ext n j least below (word_of-lt n forced)
+                (λ q k. A q (omega arith) k ∙ sym (bit-word_of n forced q k)) in absurd (omega (arith, e, l)))
+            | inr b ↦ absurd (omega (arith, b, l))
+          ]

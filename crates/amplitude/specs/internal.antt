@@ -1,5 +1,5 @@
 pub mod ByRecord
 pub mod KeptTurns
+pub mod Measuring
 pub mod Ratios
-pub mod SupportEquations
 pub mod Vectors

@@ -1,10 +1,9 @@
-pub mod Eliminations
+pub mod Copies
+pub mod Downwards
 pub mod Exponents
 pub mod FoundWords
 pub mod HalfPowers
 pub mod KeptCounts
 pub mod Loops
-pub mod LookedVertices
 pub mod PlotLines
-pub mod SupportEquations
 pub mod Vertices

@@ -22,7 +22,7 @@ use Rattle.clifford.specs.Vectors.{codes_of}
 use Rattle.cut.specs.Kernel.{count}
 use Rattle.record.specs.Graph.{Simple}
 use Rattle.record.specs.NeighbourWords.{graph_in}
-use Rattle.operations.specs.internal.KeptGroups.{GroupKept, Normalised}
+use Rattle.operations.specs.internal.KeptGroups.{Normalised}
 use Rattle.operations.specs.internal.ReducedForms.{ReducedForm}
 use Rattle.operations.proofs.UnrefusedRecords.{unrefused-long, unrefused-simple}
 use Rattle.operations.specs.internal.InPlace.{Unrefused, record_in}
@@ -86,28 +86,28 @@ module _ (words codes : List ℕ) (low : ℕ) (P : Plottable words codes low) wh
       ∙ form-rank n r (unrefused-simple words codes P.unrefused) P.form)
 
 -- ---- by the reduced form
-module _ (words codes words' codes' : List ℕ) (N : Normalised words codes words' codes') where
-  pub normalised-form : ReducedForm (length words') (held_record (record_in words' codes'))
-  normalised-form = subst (λ m. ReducedForm m (held_record (record_in words' codes'))) (sym N.kept.long) N.form
-
+module _ (words codes : List ℕ) (U : Unrefused (record_in words codes)) (words' codes' : List ℕ)
+    (N : Normalised words codes words' codes') where
   pub normalised-plottable : (low : ℕ) → low ≡ lowest (length words') (held_rows (record_in words' codes'))
       → Plottable words' codes' low
   normalised-plottable low e =
-      record { unrefused = N.kept.unrefused; form = normalised-form; smallest = e }
+      record {
+        unrefused = N.kept.unrefused;
+        form = subst (λ m. ReducedForm m (held_record (record_in words' codes'))) (sym N.kept.long) N.form;
+        smallest = e;
+      }
 
--- buffers with the same group have the record's plot
-pub kept-plots : (words codes : List ℕ) → Unrefused (record_in words codes) → (words' codes' : List ℕ)
-    → GroupKept words codes words' codes' → (y : ℕ) → plot_at (length words') (held_rows (record_in words' codes')) y
-    ≡ plot_at (length words) (held_rows (record_in words codes)) y
-kept-plots words codes U words' codes' K y =
-    let m = length words in
-    let r' = held_record (record_in words' codes') in
-    ap (λ k. plot_at k (rows_of k r') y) K.long
-    ∙ sym (plot-of-group m (held_rows (record_in words codes)) (rows_of m r')
-    (record-proper m (held_record (record_in words codes)) (unrefused-simple words codes U))
-    (record-proper m r' (subst (λ k. Simple k (graph_in words')) K.long
-    (unrefused-simple words' codes' K.unrefused)))
-    K.group y)
+  pub normalised-plots : (y : ℕ) → plot_at (length words') (held_rows (record_in words' codes')) y
+      ≡ plot_at (length words) (held_rows (record_in words codes)) y
+  normalised-plots y =
+      let m = length words in
+      let r' = held_record (record_in words' codes') in
+      ap (λ k. plot_at k (rows_of k r') y) N.kept.long
+      ∙ sym (plot-of-group m (held_rows (record_in words codes)) (rows_of m r')
+      (record-proper m (held_record (record_in words codes)) (unrefused-simple words codes U))
+      (record-proper m r' (subst (λ k. Simple k (graph_in words')) N.kept.long
+      (unrefused-simple words' codes' N.kept.unrefused)))
+      N.kept.group y)
 
 -- a copy has the record's plot
 pub copied-plots : (words codes words' codes' : List ℕ) → (words' ≡ words) × (codes' ≡ codes) → (y : ℕ)

@@ -20,20 +20,19 @@ use Rattle.words.specs.Bits.{◌⊕◌, bit, is_odd, parity, same_bit}
 use Rattle.words.specs.internal.Bits.{dot}
 use Rattle.words.specs.Search.{every}
 
--- ---- the places where both words have a 1: those of a short one suffice
-pub dot-within : (n a b : ℕ) → a < 2 ^ n → dot a b ≡ parity n (λ q. bit a q && bit b q)
-unfolding dot
-dot-within n a b l =
-    parity-ones n (bit_and a b) (lt_of_le_of_lt (and_le_l a b) l) ∙ fold-ext false ◌⊕◌ n (λ q k. bit-and a b q)
-
 -- ---- the places below j where both words have a 1
 pub dot-below : (a b j one : ℕ) (r : Bool) → one ≡ 2 ^ j → r ≡ dot (bit_and a (one - 1)) b
     → r ≡ parity j (λ q. bit a q && bit b q)
+unfolding dot
 dot-below a b j one r e h =
     h ∙ ap (λ m. dot (bit_and a (m - 1)) b) e
-    ∙ dot-within j (bit_and a (2 ^ j - 1)) b (lt_of_le_of_lt (and_le_r a (2 ^ j - 1)) (ones_lt j))
-    ∙ fold-ext false ◌⊕◌ j (λ q l. ap (λ v. v && bit b q)
+    ∙ parity-ones j (bit_and low b) (lt_of_le_of_lt (and_le_l low b)
+    (lt_of_le_of_lt (and_le_r a (2 ^ j - 1)) (ones_lt j)))
+    ∙ fold-ext false ◌⊕◌ j (λ q l. bit-and low b q ∙ ap (λ v. v && bit b q)
     (bit-and a (2 ^ j - 1) q ∙ ap (λ v. bit a q && v) (bit_mask j q l) ∙ and-true (bit a q)))
+  where
+    low : ℕ
+    low = bit_and a (2 ^ j - 1)
 
 -- ---- the equation of a vertex
 pub fits-is : (code : ℕ) (marked here around : Bool) {b p : Bool} → marked ≡ bit_c (clifford_of code) → here ≡ b

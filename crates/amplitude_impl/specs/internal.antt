@@ -1,2 +1,1 @@
-pub mod Eliminating
 pub mod Plottable

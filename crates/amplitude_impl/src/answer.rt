@@ -1,11 +1,10 @@
-// Lines of the plot of a record: read off its reduced form, and of any record by a local copy of it.
+// Lines of the plot of a record: read off its reduced form, and of any record by local copies of it.
 ghost use Rattle.std.specs.Prelude.{◌≡◌, length};
 ghost use Rattle.amplitude.specs.Ratios.{amplitude_of, plot_at};
 ghost use Rattle.operations.specs.internal.InPlace.{Unrefused, record_in};
 ghost use Rattle.record.specs.Lent.{held_rows};
 ghost use Rattle.amplitude_impl.specs.internal.Plottable.{Plottable};
 
-use crate::flattening::flatten;
 use crate::lines::{plot_line, turned};
 use crate::lowest::lowest;
 use crate::turns::{kept, supports, turns};
@@ -39,23 +38,26 @@ pub fn line_at(neighbours: &[u64], codes: &[u8], low: u64, y: u64) -> PlotLine
     plot_line(answer, count(kept(codes)))
 }
 
-// The line at y of the plot of a record; two buffers with as many places are room for a copy.
-fn line_by_copy(
+// The line at y of the plot of a record; four buffers with as many places are room for two copies.
+fn line_by_copies(
     neighbours: &[u64],
     codes: &[u8],
     y: u64,
     words: &mut [u64],
     bytes: &mut [u8],
+    measured: &mut [u64],
+    numbers: &mut [u8],
 ) -> PlotLine
     requires unrefused { Unrefused (record_in neighbours.now codes.now) }
     requires words_len { (length words.old ≡ length neighbours.now) × (length bytes.old ≡ length neighbours.now) }
+    requires measured_len { (length measured.old ≡ length neighbours.now) × (length numbers.old ≡ length
+        neighbours.now) }
     ensures { result ≡ plot_at (length neighbours.now)
         (held_rows (record_in neighbours.now codes.now)) y }
 {
     copy_record(neighbours, codes, words, bytes);
-    flatten(words, bytes);
     normalise(words, bytes);
-    let low = lowest(words, bytes);
+    let low = lowest(words, bytes, measured, numbers);
     line_at(words, bytes, low, y)
 }
 
@@ -68,5 +70,15 @@ pub fn plot_at(neighbours: &[u64], codes: &[u8], y: u64) -> PlotLine
     let n = neighbours.len();
     let mut words = [0u64; 64];
     let mut bytes = [0u8; 64];
-    line_by_copy(neighbours, codes, y, &mut words[..n], &mut bytes[..n])
+    let mut measured = [0u64; 64];
+    let mut numbers = [0u8; 64];
+    line_by_copies(
+        neighbours,
+        codes,
+        y,
+        &mut words[..n],
+        &mut bytes[..n],
+        &mut measured[..n],
+        &mut numbers[..n],
+    )
 }

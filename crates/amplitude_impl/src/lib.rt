@@ -1,6 +1,5 @@
 // Amplitudes on words: the support and its turns, the smallest word, the lines of a plot.
 pub mod answer;
-mod flattening;
 mod lines;
 pub mod lowest;
 mod turns;

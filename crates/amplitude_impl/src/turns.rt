@@ -20,8 +20,8 @@ fn dot_below(a: u64, b: u64, j: usize) -> bool
     dot_product(a & (single(j) - 1), b)
 }
 
-// The equation of vertex j, with this neighbour word and this code: where it has a Hadamard (C = 1), its bit of y is
-// the sign of its code and the bits of its smaller neighbours.
+// The equation of vertex j, with this neighbour word and this code: where it has a Hadamard (C = 1), its bit of y is the
+// sign of its code and the bits of its smaller neighbours.
 fn fits(word: u64, code: u8, y: u64, j: usize) -> bool
     requires { (j < 64) × (code < 24) }
     ensures { result ≡ (not (bit_c (clifford_of code)) || same_bit (bit y j)

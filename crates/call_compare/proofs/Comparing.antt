@@ -24,7 +24,6 @@ use Rattle.comparison.specs.internal.ComparedPairs.{HoldsReduced, PairAnswered}
 use Rattle.buffers.proofs.EarlierNumbers.{earlier-none}
 use Rattle.buffers.specs.internal.Earlier.{earlier_of}
 use Rattle.calls.specs.internal.Limited.{comparing_call}
-use Rattle.calls.specs.Comparisons.{lent_choice}
 use Rattle.record.specs.Lent.{lent_record}
 
 -- ---- two lists on n qubits, and the reductions of both
@@ -50,7 +49,7 @@ module _ (limited : Bool) (n : ℕ) (s z x s₂ z₂ x₂ choice list : List ℕ
 
   -- the earlier number comes back
   pub compare-refused : (count : ℕ) → (early ≡ 0 → ⊥) →
-      Call (comparing_call limited l m (lent_choice choice list count) (lent_choice choice list count)) early
+      Call (comparing_call limited l m choice list count choice list count) early
   compare-refused count h = refused _ (stays (pair_lines l m choice list) _ early-is h) h (refl, (refl, (refl, tt)))
 
   module _ (a : early ≡ 0) where
@@ -83,7 +82,7 @@ module _ (limited : Bool) (n : ℕ) (s z x s₂ z₂ x₂ choice list : List ℕ
     pub compare-decided : (count k : ℕ) (choice' list' : List ℕ) (count' : ℕ) →
         ((R S : ℕ → Pauli) → HoldsReduced n R nb' cs' → HoldsReduced n S nb₂' cs₂' →
         PairAnswered limited n R S choice list count k choice' list' count') →
-        Call (comparing_call limited l m (lent_choice choice list count) (lent_choice choice' list' count')) k
+        Call (comparing_call limited l m choice list count choice' list' count') k
     compare-decided count k choice' list' count' f =
         let P = f (rows l) (rows m) first_reduced second_reduced in
         record {
@@ -95,14 +94,12 @@ module _ (limited : Bool) (n : ℕ) (s z x s₂ z₂ x₂ choice list : List ℕ
 
 -- ---- the lines before the reductions
 module _ (limited : Bool) (l m : GeneratorList) (choice list : List ℕ) (count : ℕ) where
-  pub refused-2 : bad_counts l m ≡ true → Call (comparing_call limited l m (lent_choice choice list count)
-      (lent_choice choice list count)) 2
+  pub refused-2 : bad_counts l m ≡ true → Call (comparing_call limited l m choice list count choice list count) 2
   refused-2 h = record { number = sym (fits 2 _ h); held = (refl, (refl, (refl, tt))) }
 
   module _ (p : bad_counts l m ≡ false) where
     module _ (o : Bool) (e : o ≡ (other_than l.n choice || other_than 96 list)) where
-      pub refused-4 : o ≡ true → Call (comparing_call limited l m (lent_choice choice list count)
-          (lent_choice choice list count)) 4
+      pub refused-4 : o ≡ true → Call (comparing_call limited l m choice list count choice list count) 4
       refused-4 t =
           record {
             number = sym (passed 2 _ p
@@ -125,12 +122,11 @@ module _ (limited : Bool) (l m : GeneratorList) (choice list : List ℕ) (count 
 pub same_count : (limited : Bool) (n n₂ : ℕ) → n ≡ n₂ → (s z x s₂ z₂ x₂ choice list : List ℕ) (count r : ℕ)
     (choice' list' : List ℕ) (count' : ℕ) →
     Call (comparing_call limited (record { n = n; signs = s; z = z; x = x })
-    (record { n = n; signs = s₂; z = z₂; x = x₂ }) (lent_choice choice list count)
-    (lent_choice choice' list' count')) r →
+    (record { n = n; signs = s₂; z = z₂; x = x₂ })
+    choice list count choice' list' count') r →
     Call (comparing_call limited (record { n = n; signs = s; z = z; x = x })
-    (record { n = n₂; signs = s₂; z = z₂; x = x₂ }) (lent_choice choice list count)
-    (lent_choice choice' list' count')) r
+    (record { n = n₂; signs = s₂; z = z₂; x = x₂ })
+    choice list count choice' list' count') r
 same_count limited n n₂ e s z x s₂ z₂ x₂ choice list count r choice' list' count' =
     subst (λ k. Call (comparing_call limited (record { n = n; signs = s; z = z; x = x })
-    (record { n = k; signs = s₂; z = z₂; x = x₂ }) (lent_choice choice list count)
-    (lent_choice choice' list' count')) r) e
+    (record { n = k; signs = s₂; z = z₂; x = x₂ }) choice list count choice' list' count') r) e

@@ -24,7 +24,6 @@ use Rattle.stabilizer.proofs.SharedTests.{has-length}
 use Rattle.words.proofs.Flags.{neither}
 use Rattle.calls.specs.internal.Limited.{comparing_records_call}
 use Rattle.calls.specs.RecordComparisons.{records_count, records_lines}
-use Rattle.calls.specs.Comparisons.{lent_choice}
 
 -- ---- reduced copies
 -- a copy that was reduced holds the reduced record
@@ -61,7 +60,7 @@ module _ (n : ℕ) (nb cs : List ℕ) (U : Unrefused (lent_record n nb cs)) wher
 -- ---- the call
 module _ (limited : Bool) (l m : LentRecord) (choice list : List ℕ) where
   pub refused-2 : (count : ℕ) → records_count l m ≡ true →
-      Call (comparing_records_call limited l m (lent_choice choice list count) (lent_choice choice list count)) 2
+      Call (comparing_records_call limited l m choice list count choice list count) 2
   refused-2 count h = record { number = sym (fits 2 _ h); held = (refl, (refl, (refl, tt))) }
 
   -- what the two checks answer where line 2 does not hold
@@ -73,7 +72,7 @@ module _ (limited : Bool) (l m : LentRecord) (choice list : List ℕ) where
     early-is = e ∙ ap₂ earlier_of e₁ e₂ ∙ sym (records-number l m choice list p o)
 
     pub compare-refused : (count : ℕ) → (early ≡ 0 → ⊥) →
-        Call (comparing_records_call limited l m (lent_choice choice list count) (lent_choice choice list count)) early
+        Call (comparing_records_call limited l m choice list count choice list count) early
     compare-refused count h = refused _ (stays (records_lines l m choice list) _ early-is h) h (refl, (refl, (refl, tt)))
 
     module _ (a : early ≡ 0) where
@@ -113,7 +112,7 @@ module _ (limited : Bool) (l m : LentRecord) (choice list : List ℕ) where
       -- the comparison of the two reduced records decides
       pub compare-decided : {count k : ℕ} {choice' list' : List ℕ} {count' : ℕ} →
           PairAnswered limited l.n (held_rows l) (held_rows other) choice list count k choice' list' count' →
-          Call (comparing_records_call limited l m (lent_choice choice list count) (lent_choice choice' list' count')) k
+          Call (comparing_records_call limited l m choice list count choice' list' count') k
       compare-decided {count} {k} {choice'} {list'} {count'} P =
           let Q = subst (λ s. PairAnswered limited l.n (held_rows l) (held_rows s) choice list count k choice' list'
           count')

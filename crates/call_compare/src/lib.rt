@@ -4,7 +4,7 @@ pub mod records;
 ghost use Rattle.std.specs.Prelude.{◌||◌, not, ◌≡◌, ◌≤◌, eqb, length};
 ghost use Rattle.buffers.specs.Calls.{Call};
 ghost use Rattle.buffers.specs.Refusals.{bad_count};
-ghost use Rattle.calls.specs.Comparisons.{compare_call, lent_choice};
+ghost use Rattle.calls.specs.Comparisons.{compare_call};
 ghost use Rattle.calls.specs.Equivalences.{equivalent_call};
 ghost use Rattle.calls.specs.internal.Limited.{comparing_call};
 
@@ -44,8 +44,8 @@ fn compare_lists(
     ensures { Call (comparing_call limited
         (record { n = n; signs = signs1.now; z = z1.now; x = x1.now })
         (record { n = n; signs = signs2.now; z = z2.now; x = x2.now })
-        (lent_choice choice.old list.old count.old)
-        (lent_choice choice.new list.new count.new)) result }
+        choice.old list.old count.old
+        choice.new list.new count.new) result }
 {
     let first = reduce(n, signs1, z1, x1, neighbours1, codes1);
     let second = reduce(n, signs2, z2, x2, neighbours2, codes2);
@@ -85,8 +85,8 @@ fn compare_by(
     ensures { Call (comparing_call limited
         (record { n = n1; signs = signs1.now; z = z1.now; x = x1.now })
         (record { n = n2; signs = signs2.now; z = z2.now; x = x2.now })
-        (lent_choice choice.old list.old count.old)
-        (lent_choice choice.new list.new count.new)) result }
+        choice.old list.old count.old
+        choice.new list.new count.new) result }
 {
     if pair_count(n1, n2) {
         return 2;
@@ -135,8 +135,8 @@ pub fn compare(
     ensures { Call (compare_call
         (record { n = n1; signs = signs1.now; z = z1.now; x = x1.now })
         (record { n = n2; signs = signs2.now; z = z2.now; x = x2.now })
-        (lent_choice choice.old list.old count.old)
-        (lent_choice choice.new list.new count.new)) result }
+        choice.old list.old count.old
+        choice.new list.new count.new) result }
 {
     compare_by(
         true, n1, signs1, z1, x1, n2, signs2, z2, x2, choice, list, count,
@@ -160,8 +160,8 @@ pub fn equivalent(
     ensures { Call (equivalent_call
         (record { n = n1; signs = signs1.now; z = z1.now; x = x1.now })
         (record { n = n2; signs = signs2.now; z = z2.now; x = x2.now })
-        (lent_choice choice.old list.old count.old)
-        (lent_choice choice.new list.new count.new)) result }
+        choice.old list.old count.old
+        choice.new list.new count.new) result }
 {
     compare_by(
         false, n1, signs1, z1, x1, n2, signs2, z2, x2, choice, list, count,

@@ -7,7 +7,6 @@ ghost use Rattle.record.specs.Lent.{held_rows, lent_record};
 ghost use Rattle.calls.specs.Equivalences.{equivalent_records_call};
 ghost use Rattle.calls.specs.RecordComparisons.{compare_records_call};
 ghost use Rattle.calls.specs.internal.Limited.{comparing_records_call};
-ghost use Rattle.calls.specs.Comparisons.{lent_choice};
 
 use crate::pair_count;
 use buffers::copies::copy_record;
@@ -79,8 +78,8 @@ fn compare_records_by(
     ensures { Call (comparing_records_call limited
         (lent_record n1 neighbours1.now codes1.now)
         (lent_record n2 neighbours2.now codes2.now)
-        (lent_choice choice.old list.old count.old)
-        (lent_choice choice.new list.new count.new)) result }
+        choice.old list.old count.old
+        choice.new list.new count.new) result }
 {
     if pair_count(n1, n2) {
         return 2;
@@ -126,10 +125,11 @@ pub fn compare_records(
     list: &mut [u8],
     count: &mut u64,
 ) -> u8
-    ensures { Call (compare_records_call (lent_record n1 neighbours1.now codes1.now)
+    ensures { Call (compare_records_call
+        (lent_record n1 neighbours1.now codes1.now)
         (lent_record n2 neighbours2.now codes2.now)
-        (lent_choice choice.old list.old count.old)
-        (lent_choice choice.new list.new count.new)) result }
+        choice.old list.old count.old
+        choice.new list.new count.new) result }
 {
     compare_records_by(
         true,
@@ -157,10 +157,11 @@ pub fn equivalent_records(
     list: &mut [u8],
     count: &mut u64,
 ) -> u8
-    ensures { Call (equivalent_records_call (lent_record n1 neighbours1.now codes1.now)
+    ensures { Call (equivalent_records_call
+        (lent_record n1 neighbours1.now codes1.now)
         (lent_record n2 neighbours2.now codes2.now)
-        (lent_choice choice.old list.old count.old)
-        (lent_choice choice.new list.new count.new)) result }
+        choice.old list.old count.old
+        choice.new list.new count.new) result }
 {
     compare_records_by(
         false,

@@ -1,1 +1,1 @@
-pub mod MarkedWords
+pub mod KnownRecords

@@ -1,11 +1,11 @@
 // The public call that complements a lent record in place, and the pivot of job texts.
 ghost use Rattle.buffers.specs.Calls.{Call};
 ghost use Rattle.calls.specs.InPlace.{used_call};
-ghost use Rattle.operations.specs.internal.Knowing.{Known};
+ghost use Rattle.call_gates.specs.internal.Knowing.{Known};
 ghost use Rattle.operations.specs.Steps.{complement_of, pivot_of};
-ghost use Rattle.operations.specs.Used.{UsedUnrefused, used_record};
+ghost use Rattle.operations.specs.Used.{used_record};
 
-use operations_checks::in_place::in_place_refusal;
+use crate::in_place_refusal;
 use operations_rewriting::complements::complement_record;
 use operations_rewriting::pivots::pivot_record;
 use words::{bit_at, has};
@@ -32,8 +32,8 @@ pub fn complement_known(
     0
 }
 
-// A pivot on an edge, for the steps of jobs: it is no exported call, and no line of the record alone holds. The record
-// is not reduced. A used vertex has no edge, so that no test for 16 is needed.
+// A pivot on an edge, for the steps of jobs: it is no exported call. The record is not reduced. A used vertex has no edge,
+// so that no test for 16 is needed.
 pub fn pivot_known(
     n: u64,
     neighbours: &mut [u64],
@@ -41,13 +41,14 @@ pub fn pivot_known(
     used: u64,
     j: u64,
     k: u64,
+    known: bool,
 ) -> u8
-    requires { UsedUnrefused (used_record n neighbours.old codes.old used) }
+    requires { Known known (used_record n neighbours.old codes.old used) }
     ensures { Call (used_call (used_record n neighbours.old codes.old used) (pivot_of j k)
         neighbours.new codes.new) result }
 {
     let eight = (n <= j) | ((n <= k) | (j == k));
-    let early = in_place_refusal(n, neighbours, codes, used, false, eight, false, true);
+    let early = in_place_refusal(n, neighbours, codes, used, false, eight, false, known);
     if early != 0 {
         return early;
     }
@@ -58,7 +59,7 @@ pub fn pivot_known(
     0
 }
 
-// The same complementation where nothing is known of the record.
+// The same where nothing is known of the record.
 pub fn complement(n: u64, neighbours: &mut [u64], codes: &mut [u8], used: u64, a: u64) -> u8
     ensures { Call (used_call (used_record n neighbours.old codes.old used)
         (complement_of a) neighbours.new codes.new) result }

@@ -1,21 +1,118 @@
-// The public calls that rewrite a lent record in place: gate and cz.
+// The public calls that rewrite a lent record in place: their refusal, and gate and cz.
 pub mod complement;
 pub mod measure;
 
-ghost use Rattle.std.specs.Prelude.{false, true, ◌≡◌, ℕ, ◌<◌, ◌≤◌, get_or, length};
+ghost use Rattle.std.specs.Prelude.{cond, false, true, ◌≡◌, ℕ, ◌<◌, ◌≤◌, get_or, length};
 ghost use Rattle.buffers.specs.Calls.{Call};
-ghost use Rattle.buffers.specs.Refusals.{reaching};
+ghost use Rattle.buffers.specs.Refusals.{first_fitting, reaching};
 ghost use Rattle.operations_gates.specs.internal.Suspects.{Marked};
 ghost use Rattle.operations.specs.Steps.{cz_on, gate_with};
-ghost use Rattle.operations.specs.Used.{used_record};
-ghost use Rattle.operations.specs.internal.Knowing.{Known};
+ghost use Rattle.record_impl.specs.internal.Looks.{Looked};
+ghost use Rattle.operations.specs.Used.{used_lines, used_record};
 ghost use Rattle.calls.specs.InPlace.{used_call};
-ghost use Rattle.call_gates.specs.internal.Looking.{Found};
+ghost use Rattle.calls.specs.internal.InPlace.{used_in_place};
+ghost use Rattle.call_gates.specs.internal.Knowing.{Found, Known};
 
-use operations_checks::in_place::in_place_number;
+use operations_checks::used_number;
 use operations_gates::suspecting::{Seen, look, suspects};
 use operations_gates::{cz_record, gate_record};
 use words::bit_at;
+
+// 6 where line 6 holds of a further argument.
+fn six_number(six: bool) -> u8
+    ensures { result ≡ cond six 6 0 }
+{
+    if six { 6 } else { 0 }
+}
+
+// The number of the first line of a record that holds, which need not be looked for where none is known to hold;
+// `looked`: `over` says whether a code is 24 or more; `six`: line 6 holds of a further argument.
+fn known_number(
+    n: u64,
+    neighbours: &[u64],
+    codes: &[u8],
+    used: u64,
+    looked: bool,
+    over: bool,
+    six: bool,
+    known: bool,
+) -> u8
+    requires known { Known known (used_record n neighbours.now codes.now used) }
+    requires looked { Looked looked codes.now over }
+    ensures { result ≡ first_fitting (used_lines (used_record n neighbours.now codes.now used)
+        false false six) }
+{
+    if known {
+        return six_number(six);
+    }
+    used_number(n, neighbours, codes, used, 0, false, looked, over, six)
+}
+
+// The same, where the codes have not been looked at.
+pub fn known_refusal(
+    n: u64,
+    neighbours: &[u64],
+    codes: &[u8],
+    used: u64,
+    six: bool,
+    known: bool,
+) -> u8
+    requires { Known known (used_record n neighbours.now codes.now used) }
+    ensures { result ≡ first_fitting (used_lines (used_record n neighbours.now codes.now used)
+        false false six) }
+{
+    known_number(n, neighbours, codes, used, false, false, six, known)
+}
+
+// The number of the first line of a record that holds, then 8 where `eight` does, then 16 where `sixteen` does;
+// `looked`: `over` says whether a code is 24 or more; `six`: line 6 holds of a further argument; `known`: no line of the
+// record alone holds.
+fn in_place_number(
+    n: u64,
+    neighbours: &[u64],
+    codes: &[u8],
+    used: u64,
+    looked: bool,
+    over: bool,
+    six: bool,
+    eight: bool,
+    sixteen: bool,
+    known: bool,
+) -> u8
+    requires known { Known known (used_record n neighbours.now codes.now used) }
+    requires looked { Looked looked codes.now over }
+    ensures { result ≡ first_fitting (used_in_place (used_record n neighbours.now codes.now used)
+        six eight sixteen) }
+{
+    let early = known_number(n, neighbours, codes, used, looked, over, six, known);
+    if early != 0 {
+        return early;
+    }
+    if eight {
+        return 8;
+    }
+    if sixteen { 16 } else { 0 }
+}
+
+// The same, where the codes have not been looked at.
+pub fn in_place_refusal(
+    n: u64,
+    neighbours: &[u64],
+    codes: &[u8],
+    used: u64,
+    six: bool,
+    eight: bool,
+    sixteen: bool,
+    known: bool,
+) -> u8
+    requires { Known known (used_record n neighbours.now codes.now used) }
+    ensures { result ≡ first_fitting (used_in_place (used_record n neighbours.now codes.now used)
+        six eight sixteen) }
+{
+    in_place_number(
+        n, neighbours, codes, used, false, false, six, eight, sixteen, known,
+    )
+}
 
 // One look at all codes, for line 6 and for what follows; none where no line of the record holds.
 fn first_look(codes: &[u8], known: bool) -> Seen

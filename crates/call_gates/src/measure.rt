@@ -3,15 +3,34 @@ ghost use Rattle.std.specs.Prelude.{◌≡◌};
 ghost use Rattle.buffers.specs.Calls.{Call};
 ghost use Rattle.buffers.specs.Refusals.{first_fitting};
 ghost use Rattle.calls.specs.InPlace.{used_measure_call};
-ghost use Rattle.calls.specs.Asked.{lent_outcome, pauli_asked};
-ghost use Rattle.operations.specs.internal.Knowing.{Known};
+ghost use Rattle.call_gates.specs.internal.Knowing.{Known};
 ghost use Rattle.operations.specs.Steps.{measurement_of};
-ghost use Rattle.operations.specs.Used.{used_lines_of, used_record};
+ghost use Rattle.operations.specs.Used.{used_arguments_of, used_lines_of, used_record};
 
+use crate::in_place_refusal;
 use operations::{determined_number, outcome_number};
-use operations_checks::in_place::argument_refusal;
 use operations_measurement::{contradicted, measure_record};
-use words::single;
+use words::{bit_at, single};
+
+// The number of the first line of a measurement's arguments that holds.
+pub fn argument_refusal(
+    n: u64,
+    neighbours: &[u64],
+    codes: &[u8],
+    used: u64,
+    pauli: u8,
+    qubit: u64,
+    outcome: u8,
+    known: bool,
+) -> u8
+    requires { Known known (used_record n neighbours.now codes.now used) }
+    ensures { result ≡ first_fitting (used_arguments_of (used_record n neighbours.now codes.now
+        used) (measurement_of pauli qubit outcome)) }
+{
+    let six = (2 <= outcome) | ((pauli == 0) | (4 <= pauli));
+    let sixteen = bit_at(used, qubit);
+    in_place_refusal(n, neighbours, codes, used, six, n <= qubit, sixteen, known)
+}
 
 // The number of the first line of a measurement that holds: those of its arguments, and 14 where a determined outcome
 // contradicts the supplied bit.
@@ -40,8 +59,7 @@ fn measure_refusal(
     }
 }
 
-// A Pauli measured at a qubit: the outcome, whether it was determined, the reduced record, and the qubit marked as
-// used.
+// A Pauli measured at a qubit: the outcome, whether it was determined, the reduced record, and the qubit marked as used.
 pub fn measure_known(
     n: u64,
     neighbours: &mut [u64],
@@ -55,11 +73,10 @@ pub fn measure_known(
     known: bool,
 ) -> u8
     requires { Known known (used_record n neighbours.old codes.old used.old) }
-    ensures { Call (used_measure_call
-        (used_record n neighbours.old codes.old used.old)
-        (pauli_asked pauli qubit outcome) (lent_outcome answer.old determined.old)
-        (used_record n neighbours.new codes.new used.new)
-        (lent_outcome answer.new determined.new)) result }
+    ensures { Call (used_measure_call (used_record n neighbours.old codes.old
+        used.old) pauli qubit outcome answer.old determined.old
+        neighbours.new codes.new used.new answer.new
+        determined.new) result }
 {
     let word = *used;
     let early = measure_refusal(n, neighbours, codes, word, pauli, qubit, outcome, known);
@@ -85,11 +102,10 @@ pub fn measure(
     answer: &mut u8,
     determined: &mut u8,
 ) -> u8
-    ensures { Call (used_measure_call
-        (used_record n neighbours.old codes.old used.old)
-        (pauli_asked pauli qubit outcome) (lent_outcome answer.old determined.old)
-        (used_record n neighbours.new codes.new used.new)
-        (lent_outcome answer.new determined.new)) result }
+    ensures { Call (used_measure_call (used_record n neighbours.old codes.old
+        used.old) pauli qubit outcome answer.old determined.old
+        neighbours.new codes.new used.new answer.new
+        determined.new) result }
 {
     measure_known(
         n, neighbours, codes, used, pauli, qubit, outcome, answer, determined, false,

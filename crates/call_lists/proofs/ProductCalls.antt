@@ -16,7 +16,7 @@ use Rattle.stabilizer.proofs.Within.{product-within}
 use Rattle.stabilizer.specs.Groups.{Within}
 use Rattle.stabilizer.specs.Lists.{GeneratorList, rows}
 use Rattle.calls.proofs.ProductLines.{accepted-rows}
-use Rattle.calls.specs.Products.{chosen_product, lent_product, product_call, product_lines}
+use Rattle.calls.specs.Products.{chosen_product, product_call, product_lines}
 
 module _ (l : GeneratorList) (chosen : ℕ) (e : first_fitting (product_lines l chosen) ≡ 0) where
   within : Within l.n (chosen_product l chosen)
@@ -28,7 +28,7 @@ module _ (l : GeneratorList) (chosen : ℕ) (e : first_fitting (product_lines l 
   word-is w f h same = bit-ext∞ w (word_of l.n f) (λ q. same q ∙ sym (word_back l.n f h q))
 
   pub product-accepted : {z x phase : ℕ} (p : Row) → pauli_of p ≡ chosen_product l chosen → p.phase < 4
-      → Call (product_call l chosen (lent_product z x phase) (lent_product p.z p.x p.phase)) 0
+      → Call (product_call l chosen z x phase p.z p.x p.phase) 0
   product-accepted p is low =
       record {
         number = sym e;

@@ -4,7 +4,7 @@ ghost use Rattle.buffers.specs.Calls.{Call};
 ghost use Rattle.buffers.specs.Refusals.{first_fitting};
 ghost use Rattle.pauli.specs.Pauli.{signed_row};
 ghost use Rattle.pauli.specs.internal.Rows.{pauli_of};
-ghost use Rattle.calls.specs.Products.{chosen_product, lent_product, product_call, product_lines};
+ghost use Rattle.calls.specs.Products.{chosen_product, product_call, product_lines};
 ghost use Rattle.words.specs.Bits.{is_odd};
 
 use pauli::Row;
@@ -82,8 +82,8 @@ pub fn product(
 ) -> u8
     ensures { Call (product_call
         (record { n = n; signs = signs.now; z = z.now; x = x.now }) chosen
-        (lent_product product_z.old product_x.old phase.old)
-        (lent_product product_z.new product_x.new phase.new)) result }
+        product_z.old product_x.old phase.old
+        product_z.new product_x.new phase.new) result }
 {
     let number = product_refusal(n, signs, z, x, chosen);
     if number != 0 {

@@ -1,8 +1,6 @@
 // The public call that measures a Pauli row of any weight.
 ghost use Rattle.buffers.specs.Calls.{Call};
 ghost use Rattle.calls.specs.Parities.{measure_row_call};
-ghost use Rattle.calls.specs.Asked.{lent_outcome, row_asked};
-ghost use Rattle.record.specs.Lent.{lent_record};
 ghost use Rattle.operations.specs.Used.{used_record};
 
 use operations::{determined_number, outcome_number};
@@ -22,10 +20,9 @@ pub fn measure_row(
     answer: &mut u8,
     determined: &mut u8,
 ) -> u8
-    ensures { Call (measure_row_call (used_record n neighbours.old codes.old used)
-        (row_asked z x bit) (lent_outcome answer.old determined.old)
-        (lent_record n neighbours.new codes.new)
-        (lent_outcome answer.new determined.new)) result }
+    ensures { Call (measure_row_call (used_record n neighbours.old codes.old used) z x bit
+        answer.old determined.old
+        neighbours.new codes.new answer.new determined.new) result }
 {
     let row = z | x;
     let early = used_refusal(n, neighbours, codes, used, row, false, 2 <= bit);

@@ -47,8 +47,7 @@ module _ (word g : ℕ) (u : UsedRecord) (name : ℕ) (st : Store) (k : ℕ)
     pub save-refused : Call (party_save_call word g u name st st.heads st.neighbours st.codes) k
     save-refused = refused _ (stays (shared_lines word g u st) _ e h) h (refl, (refl, (refl, tt)))
 
-    pub return_refused : Call (party_return_call word g u name st
-        (used_record u.held.n u.held.neighbours u.held.codes u.used)) k
+    pub return_refused : Call (party_return_call word g u name st u.held.neighbours u.held.codes u.used) k
     return_refused = refused _ (stays (shared_lines word g u st) _ e h) h (refl, (refl, (refl, tt)))
 
     pub forget-refused : Call (party_forget_call word g u name st st.heads) k
@@ -121,8 +120,7 @@ module _ (word g : ℕ) (u : UsedRecord) (name : ℕ) (st : Store) (k : ℕ)
         nowhere = ap not (above-none 4 (has_name heads name) (subst (λ q. 4 ≤ q) p l))
 
         pub return-not-held :
-            Call (party_return_call word g u name st
-            (used_record u.held.n u.held.neighbours u.held.codes u.used)) 17
+            Call (party_return_call word g u name st u.held.neighbours u.held.codes u.used) 17
         return-not-held = refused _ (decides (shared_lines word g u st) refl e z (here nowhere))
             (λ x. absurd (omega (arith, x))) (refl, (refl, (refl, tt)))
 
@@ -148,7 +146,7 @@ module _ (word g : ℕ) (u : UsedRecord) (name : ℕ) (st : Store) (k : ℕ)
             (of64 (part_at (4 * g + place) 64 st.neighbours) (part_at (4 * g + place) 64 st.codes) 0)
             (of64 u.held.neighbours u.held.codes 0)).held
             → used' ≡ word_of 64 (λ q. cond (bit own q) (bit was q) (bit u.used q))
-            → Call (party_return_call word g u name st (used_record u.held.n nb' cs' used')) 0
+            → Call (party_return_call word g u name st nb' cs' used') 0
         return-done own eo was ew nb' cs' used' er eu = done _ (z ∙ at-end) z (
           ap (λ r. r.neighbours) er ∙ ap (λ v. v.held.neighbours) left,
           (

@@ -24,7 +24,6 @@ use Rattle.operations.specs.Steps.{Operation, measured_answer, measurement_of}
 use Rattle.operations.specs.Used.{used_lines_of, UsedRecord, used_record, UsedUnrefused}
 use Rattle.words.specs.Bits.{bit, word_of}
 use Rattle.calls.specs.Parties.{party_call, party_lent, party_measure_call}
-use Rattle.calls.specs.Asked.{lent_outcome, pauli_asked}
 
 module _ (word g : ℕ) (u : UsedRecord) (o : Operation) (A : Admitted word g u o) where
   -- the record's buffers have 64 places
@@ -86,8 +85,7 @@ module _ (word g : ℕ) (u : UsedRecord) (o : Operation) (A : Admitted word g u 
 module _ (word g : ℕ) (u : UsedRecord) (pauli q b : ℕ) (A : Admitted word g u (measurement_of pauli q b))
     {v : UsedRecord} (copied : v ≡ masked (in_party word g) u) {answer determined r : ℕ} {nb cs : List ℕ}
     {own answer' determined' : ℕ}
-    (C : Call (used_measure_call v (pauli_asked pauli q b) (lent_outcome answer determined)
-    (used_record v.held.n nb cs own) (lent_outcome answer' determined')) r) where
+    (C : Call (used_measure_call v pauli q b answer determined nb cs own answer' determined') r) where
   -- without the further answers
   on-record : Call (used_call v (measurement_of pauli q b) nb cs) r
   on-record = record { number = C.number; held = C.held.1.1.1 }
@@ -95,19 +93,17 @@ module _ (word g : ℕ) (u : UsedRecord) (pauli q b : ℕ) (A : Admitted word g 
   measured-number : r ≡ first_fitting (party_lines word g u (measurement_of pauli q b))
   measured-number = number word g u (measurement_of pauli q b) A copied (measure-op pauli q b) on-record
 
-  pub measure-refused : (r ≡ 0 → ⊥) → Call (party_measure_call word g u (pauli_asked pauli q b)
-      (lent_outcome answer determined) (used_record u.held.n u.held.neighbours u.held.codes u.used)
-      (lent_outcome answer' determined')) r
+  pub measure-refused : (r ≡ 0 → ⊥) → Call (party_measure_call word g u pauli q b answer determined
+      u.held.neighbours u.held.codes u.used answer' determined') r
   measure-refused h =
       let K = kept-all C h in
       refused _ measured-number h (refl, (K.1.0, (K.1.1.0, (refl, (refl, tt)))))
 
   -- accepted: the outcome is that of the whole record
   module _ (z : r ≡ 0) where
-    on-copy : Call (used_measure_call (masked (in_party word g) u) (pauli_asked pauli q b)
-        (lent_outcome answer determined) (used_record u.held.n nb cs own) (lent_outcome answer' determined')) r
-    on-copy = subst (λ w. Call (used_measure_call w (pauli_asked pauli q b) (lent_outcome answer determined)
-        (used_record w.held.n nb cs own) (lent_outcome answer' determined')) r) copied C
+    on-copy : Call (used_measure_call (masked (in_party word g) u) pauli q b answer determined nb cs own answer'
+        determined') r
+    on-copy = subst (λ w. Call (used_measure_call w pauli q b answer determined nb cs own answer' determined') r) copied C
 
     same_answer : measured_answer (masked (in_party word g) u).held pauli q b ≡ measured_answer u.held pauli q b
     same_answer = sym (masked-answer word g u A.apart pauli q b A.own
@@ -117,8 +113,7 @@ module _ (word g : ℕ) (u : UsedRecord) (pauli q b : ℕ) (A : Admitted word g 
     pub measure-done : {nb' cs' : List ℕ} {used' : ℕ}
         → PutBack (in_party word g) nb cs u.held.neighbours u.held.codes nb' cs'
         → used' ≡ word_of 64 (λ t. cond (in_party word g t) (bit own t) (bit u.used t))
-        → Call (party_measure_call word g u (pauli_asked pauli q b) (lent_outcome answer determined)
-        (used_record u.held.n nb' cs' used') (lent_outcome answer' determined')) 0
+        → Call (party_measure_call word g u pauli q b answer determined nb' cs' used' answer' determined') 0
     measure-done P eu =
         let W = written_all on-copy z in
         done _ measured-number z (

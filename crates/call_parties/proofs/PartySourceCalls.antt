@@ -10,7 +10,6 @@ use Rattle.calls.proofs.PartySourceCalls.{measured-as-observed}
 use Rattle.calls.proofs.SourceCalls.{observe-as-measured}
 use Rattle.calls.specs.InPlace.{used_measure_call}
 use Rattle.calls.specs.Sources.{party_observe_call, party_renew_call, observe_call, renew_call}
-use Rattle.calls.specs.Asked.{lent_outcome, pauli_asked}
 use Rattle.buffers.proofs.Calling.{kept-all, refused}
 use Rattle.buffers.proofs.Fitting.{stays}
 use Rattle.buffers.specs.Calls.{Call}
@@ -33,7 +32,7 @@ use Rattle.operations.specs.Measurement.{outcome_number}
 use Rattle.operations.specs.Steps.{gate_with, in_place_lines, measurement_of}
 use Rattle.source.proofs.Observed.{answered}
 use Rattle.source.specs.Renewal.{renew_lines}
-use Rattle.operations.specs.Used.{UsedRecord, used_arguments_of, used_code, used_lines_of, used_record, with_used}
+use Rattle.operations.specs.Used.{UsedRecord, used_arguments_of, used_code, used_lines_of, with_used}
 use Rattle.words.specs.Bits.{bit, word_of}
 
 module _ (word g : ℕ) (u : UsedRecord) (pauli q b : ℕ) where
@@ -57,8 +56,7 @@ module _ (word g : ℕ) (u : UsedRecord) (pauli q b : ℕ) where
   -- ---- the call on the copy
   module _ (A : Admitted word g u (measurement_of pauli q b)) {v : UsedRecord} (copied : v ≡ masked (in_party word g) u)
       {answer determined r : ℕ} {nb cs : List ℕ} {own answer' determined' : ℕ}
-      (C : Call (observe_call v (pauli_asked pauli q b) (lent_outcome answer determined)
-      (used_record v.held.n nb cs own) (lent_outcome answer' determined')) r) where
+      (C : Call (observe_call v pauli q b answer determined nb cs own answer' determined') r) where
     arguments-like : (w : UsedRecord) → used_arguments_of w (measurement_of pauli q b) ≡ used_lines_of w
         (like word g u pauli q b)
     arguments-like w = ap (λ s. with_used w (bit w.used q) (in_place_lines w.held s (leb w.held.n q)))
@@ -71,9 +69,8 @@ module _ (word g : ℕ) (u : UsedRecord) (pauli q b : ℕ) where
         (gate-op q (like_code pauli b))
         ∙ sym (ap first_fitting (like-a-gate word g u pauli q b))
 
-    pub observe-refused : (r ≡ 0 → ⊥) → Call (party_observe_call word g u (pauli_asked pauli q b)
-        (lent_outcome answer determined) (used_record u.held.n u.held.neighbours u.held.codes u.used)
-        (lent_outcome answer' determined')) r
+    pub observe-refused : (r ≡ 0 → ⊥) → Call (party_observe_call word g u pauli q b answer determined
+        u.held.neighbours u.held.codes u.used answer' determined') r
     observe-refused h =
         let K = kept-all C h in
         refused _ number h (refl, (K.1.0, (K.1.1.0, (refl, (refl, tt)))))
@@ -81,8 +78,7 @@ module _ (word g : ℕ) (u : UsedRecord) (pauli q b : ℕ) where
     pub observe-done : r ≡ 0 → {nb' cs' : List ℕ} {used' : ℕ}
         → PutBack (in_party word g) nb cs u.held.neighbours u.held.codes nb' cs'
         → used' ≡ word_of 64 (λ t. cond (in_party word g t) (bit own t) (bit u.used t))
-        → Call (party_observe_call word g u (pauli_asked pauli q b) (lent_outcome answer determined)
-        (used_record u.held.n nb' cs' used') (lent_outcome answer' determined')) 0
+        → Call (party_observe_call word g u pauli q b answer determined nb' cs' used' answer' determined') 0
     observe-done z P eu =
         measured-as-observed word g u pauli q b answer determined _ _ _ answer' determined' passes
         (measure-done word g u pauli q (answered u pauli q b) (record { apart = A.apart; low = A.low; own = A.own })
@@ -91,20 +87,18 @@ module _ (word g : ℕ) (u : UsedRecord) (pauli q b : ℕ) where
         passes : first_fitting (party_observe_lines word g u pauli q b) ≡ 0
         passes = sym number ∙ z
 
-        observed : Call (observe_call (masked (in_party word g) u) (pauli_asked pauli q b)
-            (lent_outcome answer determined) (used_record u.held.n nb cs own) (lent_outcome answer' determined')) 0
-        observed = subst (λ k. Call (observe_call (masked (in_party word g) u) (pauli_asked pauli q b)
-            (lent_outcome answer determined) (used_record u.held.n nb cs own)
-            (lent_outcome answer' determined')) k) z
-            (subst (λ w. Call (observe_call w (pauli_asked pauli q b) (lent_outcome answer determined)
-            (used_record w.held.n nb cs own) (lent_outcome answer' determined')) r) copied C)
+        observed : Call (observe_call (masked (in_party word g) u) pauli q b answer determined nb cs own answer'
+            determined') 0
+        observed = subst (λ k. Call (observe_call (masked (in_party word g) u) pauli q b answer determined nb cs own
+            answer' determined') k) z
+            (subst (λ w. Call (observe_call w pauli q b answer determined nb cs own answer' determined') r) copied C)
 
-        on-copy : Call (used_measure_call (masked (in_party word g) u) (pauli_asked pauli q (answered u pauli q b))
-            (lent_outcome answer determined) (used_record u.held.n nb cs own) (lent_outcome answer' determined')) 0
-        on-copy = subst (λ k. Call (used_measure_call (masked (in_party word g) u) (pauli_asked pauli q k)
-            (lent_outcome answer determined) (used_record u.held.n nb cs own)
-            (lent_outcome answer' determined')) 0) (sym (ap outcome_number (observed-alone word g u pauli q b passes
-            A.apart)))
+        on-copy : Call (used_measure_call (masked (in_party word g) u) pauli q (answered u pauli q b) answer determined nb
+            cs own
+            answer' determined') 0
+        on-copy = subst (λ k. Call (used_measure_call (masked (in_party word g) u) pauli q k answer determined nb cs own
+            answer'
+            determined') 0) (sym (ap outcome_number (observed-alone word g u pauli q b passes A.apart)))
             (observe-as-measured (masked (in_party word g) u) pauli q b observed)
 
 -- ---- a renewal
@@ -124,7 +118,7 @@ module _ (word g : ℕ) (u : UsedRecord) (q k : ℕ) {r : ℕ}
       again false = refl
 
   pub renew-whole : r ≡ 0 → {nb' cs' : List ℕ} {used' m : ℕ} → Call (renew_call u q k nb' cs' used') m
-      → Call (party_renew_call word g u q k (used_record u.held.n nb' cs' used')) m
+      → Call (party_renew_call word g u q k nb' cs' used') m
   renew-whole z C =
       let A = renew-admitted z in
       record {

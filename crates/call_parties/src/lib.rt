@@ -8,7 +8,6 @@ ghost use Rattle.buffers.specs.Calls.{Call};
 ghost use Rattle.parties_impl.specs.internal.BeforeEight.{Admitted};
 ghost use Rattle.operations.specs.Steps.{complement_of, cz_on, gate_with, measurement_of};
 ghost use Rattle.calls.specs.Parties.{party_call, party_measure_call};
-ghost use Rattle.calls.specs.Asked.{lent_outcome, pauli_asked};
 ghost use Rattle.operations.specs.Used.{used_record};
 
 use call_gates::complement::complement_known;
@@ -218,11 +217,10 @@ fn measure_within(
     requires admitted { Admitted word party (used_record n neighbours.old codes.old used.old) (measurement_of pauli qubit
         outcome) }
     requires words_len { (length words.old ≡ 64) × (length bytes.old ≡ 64) }
-    ensures { Call (party_measure_call word party
-        (used_record n neighbours.old codes.old used.old)
-        (pauli_asked pauli qubit outcome) (lent_outcome answer.old determined.old)
-        (used_record n neighbours.new codes.new used.new)
-        (lent_outcome answer.new determined.new)) result }
+    ensures { Call (party_measure_call word party (used_record n neighbours.old codes.old
+        used.old) pauli qubit outcome answer.old determined.old
+        neighbours.new codes.new used.new answer.new
+        determined.new) result }
 {
     let whole = *used;
     let mut own_used = take_party(word, party, neighbours, codes, whole, words, bytes);
@@ -261,11 +259,10 @@ pub fn measure(
     answer: &mut u8,
     determined: &mut u8,
 ) -> u8
-    ensures { Call (party_measure_call word party
-        (used_record n neighbours.old codes.old used.old)
-        (pauli_asked pauli qubit outcome) (lent_outcome answer.old determined.old)
-        (used_record n neighbours.new codes.new used.new)
-        (lent_outcome answer.new determined.new)) result }
+    ensures { Call (party_measure_call word party (used_record n neighbours.old codes.old
+        used.old) pauli qubit outcome answer.old determined.old
+        neighbours.new codes.new used.new answer.new
+        determined.new) result }
 {
     let other = outside(n, word, party, qubit);
     let six = (2 <= outcome) | ((pauli == 0) | (4 <= pauli));

@@ -5,11 +5,9 @@ ghost use Rattle.buffers.specs.Calls.{Call};
 ghost use Rattle.parties_impl.specs.internal.BeforeEight.{Admitted};
 ghost use Rattle.operations.specs.Steps.{measurement_of};
 ghost use Rattle.calls.specs.Sources.{party_observe_call, party_renew_call};
-ghost use Rattle.calls.specs.Asked.{lent_outcome, pauli_asked};
 ghost use Rattle.operations.specs.Used.{used_record};
 
-use call_source::{observe_known, renew_known};
-use operations_checks::no_photon;
+use call_source::{no_photon, observe_known, renew_known};
 use parties_impl::records::{outside, party_refusal, put_party, put_used, take_party};
 
 // An observation of a call that is admitted, on the copy; `words` and `bytes` have room for it.
@@ -31,11 +29,10 @@ fn observe_within(
     requires admitted { Admitted word party (used_record n neighbours.old codes.old used.old) (measurement_of pauli qubit
         bit) }
     requires words_len { (length words.old ≡ 64) × (length bytes.old ≡ 64) }
-    ensures { Call (party_observe_call word party
-        (used_record n neighbours.old codes.old used.old)
-        (pauli_asked pauli qubit bit) (lent_outcome answer.old determined.old)
-        (used_record n neighbours.new codes.new used.new)
-        (lent_outcome answer.new determined.new)) result }
+    ensures { Call (party_observe_call word party (used_record n neighbours.old codes.old
+        used.old) pauli qubit bit answer.old determined.old
+        neighbours.new codes.new used.new answer.new
+        determined.new) result }
 {
     let whole = *used;
     let mut own_used = take_party(word, party, neighbours, codes, whole, words, bytes);
@@ -59,8 +56,8 @@ fn observe_within(
     0
 }
 
-// A Pauli measured at a qubit of the party with a bit by lot: the outcome, whether it was determined, the party's
-// vertices reduced, and the qubit marked as used.
+// A Pauli measured at a qubit of the party with a bit by lot: the outcome, whether it was determined, the party's vertices
+// reduced, and the qubit marked as used.
 pub fn observe(
     n: u64,
     word: u64,
@@ -74,11 +71,10 @@ pub fn observe(
     answer: &mut u8,
     determined: &mut u8,
 ) -> u8
-    ensures { Call (party_observe_call word party
-        (used_record n neighbours.old codes.old used.old)
-        (pauli_asked pauli qubit bit) (lent_outcome answer.old determined.old)
-        (used_record n neighbours.new codes.new used.new)
-        (lent_outcome answer.new determined.new)) result }
+    ensures { Call (party_observe_call word party (used_record n neighbours.old codes.old
+        used.old) pauli qubit bit answer.old determined.old
+        neighbours.new codes.new used.new answer.new
+        determined.new) result }
 {
     let other = outside(n, word, party, qubit);
     let six = (2 <= bit) | ((pauli == 0) | (4 <= pauli));
@@ -117,9 +113,8 @@ pub fn renew(
     qubit: u64,
     code: u8,
 ) -> u8
-    ensures { Call (party_renew_call word party
-        (used_record n neighbours.old codes.old used.old) qubit code
-        (used_record n neighbours.new codes.new used.new)) result }
+    ensures { Call (party_renew_call word party (used_record n neighbours.old codes.old
+        used.old) qubit code neighbours.new codes.new used.new) result }
 {
     let other = outside(n, word, party, qubit);
     let six = no_photon(code);

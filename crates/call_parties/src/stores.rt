@@ -151,14 +151,12 @@ pub fn return_to(
     held_neighbours: &[u64],
     held_codes: &[u8],
 ) -> u8
-    ensures { Call (party_return_call word party
-        (used_record n neighbours.old codes.old used.old) name
-        (record {
+    ensures { Call (party_return_call word party (used_record n neighbours.old codes.old
+        used.old) name (record {
           heads = heads.entry.now;
           neighbours = held_neighbours.now;
           codes = held_codes.now;
-        })
-        (used_record n neighbours.new codes.new used.new)) result }
+        }) neighbours.new codes.new used.new) result }
 {
     let early = shared_refusal(
         n,

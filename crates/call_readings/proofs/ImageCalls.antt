@@ -21,7 +21,7 @@ use Rattle.record.specs.Accepted.{AcceptedRecord}
 use Rattle.record.specs.Lent.{LentRecord, held_record, record_lengths, record_lines}
 use Rattle.stabilizer.proofs.SharedTests.{has-length}
 use Rattle.words.proofs.Flags.{neither}
-use Rattle.calls.specs.Images.{image_call, lent_image}
+use Rattle.calls.specs.Images.{image_call}
 
 -- the buffers lent for the graph, the signs and the list
 module _ (l : LentRecord) (g s v : List ℕ) (count : ℕ) where
@@ -32,7 +32,7 @@ module _ (l : LentRecord) (g s v : List ℕ) (count : ℕ) where
     at-lines p = p ∙ ap (λ b. first_fitting (record_lines l b false ++ loop_lines l.n (held_record l))) o
 
     -- the record is refused
-    pub image-refused : (k ≡ 0 → ⊥) → Call (image_call l (lent_image g s v count) (lent_image g s v count)) k
+    pub image-refused : (k ≡ 0 → ⊥) → Call (image_call l g s v count g s v count) k
     image-refused h =
         refused _ (at-lines (stays (record_lines l others false) _ e h)) h (refl, (refl, (refl, (refl, tt))))
 
@@ -75,15 +75,14 @@ module _ (l : LentRecord) (g s v : List ℕ) (count : ℕ) where
             (more-accepted (record_lines l others false) _ (record-numbered l others false) (sym e ∙ z)))
 
         -- 11 or 12
-        pub image-looped : (a.number ≡ 0 → ⊥) → Call (image_call l (lent_image g s v count)
-            (lent_image g s v count)) a.number
+        pub image-looped : (a.number ≡ 0 → ⊥) → Call (image_call l g s v count g s v count) a.number
         image-looped h = refused _ loop-number h (refl, (refl, (refl, (refl, tt))))
 
         -- neither: the answer is written
         pub image-accepted : a.number ≡ 0 → (g' s' v' : List ℕ) →
             g' ≡ tabulate (length g) (λ j. get_or a.graph j 0) →
             s' ≡ tabulate (length s) (λ j. get_or a.signs j 0) → v' ≡ written (take a.count a.list) v →
-            Call (image_call l (lent_image g s v count) (lent_image g' s' v' a.count)) 0
+            Call (image_call l g s v count g' s' v' a.count) 0
         image-accepted y g' s' v' eg es ev =
             done _ loop-number y (
               eg ∙ ap (λ m. tabulate m (λ j. get_or a.graph j 0)) graph-fits ∙ tabulate-cong l.n _ _ A.graph,

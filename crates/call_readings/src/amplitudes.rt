@@ -2,7 +2,7 @@
 ghost use Rattle.std.specs.Prelude.{not, ◌≡◌, T};
 ghost use Rattle.std.specs.Float.Ieee.{is_nan};
 ghost use Rattle.buffers.specs.Calls.{Call};
-ghost use Rattle.calls.specs.Amplitudes.{amplitude_call, bits_of, lent_plot};
+ghost use Rattle.calls.specs.Amplitudes.{amplitude_call, bits_of};
 ghost use Rattle.operations.specs.Used.{used_record};
 
 use amplitude_impl::answer::plot_at;
@@ -16,8 +16,8 @@ fn bits(v: f64) -> u64
     f64::to_bits(v)
 }
 
-// The line of the plot at y: the amplitude over that at the smallest word with a nonzero amplitude, and the
-// probability, as the bits of three floats.
+// The line of the plot at y: the amplitude over that at the smallest word with a nonzero amplitude, and the probability,
+// as the bits of three floats.
 pub fn amplitude(
     n: u64,
     neighbours: &[u64],
@@ -29,8 +29,7 @@ pub fn amplitude(
     p: &mut u64,
 ) -> u8
     ensures { Call (amplitude_call (used_record n neighbours.now codes.now used) y
-        (lent_plot re.old im.old p.old)
-        (lent_plot re.new im.new p.new)) result }
+        re.old im.old p.old re.new im.new p.new) result }
 {
     let number = used_refusal(n, neighbours, codes, used, y, false, false);
     if number != 0 {

@@ -1,6 +1,6 @@
 // The public call on the image of a graph.
 ghost use Rattle.buffers.specs.Calls.{Call};
-ghost use Rattle.calls.specs.Images.{image_call, lent_image};
+ghost use Rattle.calls.specs.Images.{image_call};
 ghost use Rattle.record.specs.Lent.{lent_record};
 
 use buffers::{copy_bytes, copy_list, copy_words, other_than};
@@ -17,9 +17,10 @@ pub fn image(
     list: &mut [u8],
     count: &mut u64,
 ) -> u8
-    ensures { Call (image_call (lent_record n neighbours.now codes.now)
-        (lent_image image.old signs.old list.old count.old)
-        (lent_image image.new signs.new list.new count.new)) result }
+    ensures { Call (image_call
+        (lent_record n neighbours.now codes.now)
+        image.old signs.old list.old count.old
+        image.new signs.new list.new count.new) result }
 {
     let others = other_than(image.len(), n)
         | (other_than(signs.len(), n) | other_than(list.len(), 96));

@@ -7,7 +7,7 @@ ghost use Rattle.calls.specs.Orbits.{orbit_call, orbit_lines};
 use buffers::strays;
 use orbits_impl::marks::write_orbit;
 use orbits_impl::numbers::graph_number;
-use record_impl::simple::not_simple;
+use record_impl::checks::not_simple;
 
 // The first line that holds; 0 where none does.
 fn orbit_refusal(n: u64, neighbours: &[u64], list: &[u16]) -> u8

@@ -14,7 +14,6 @@ use denote.Builtin.{u64, u8, usize}
 use denote.Laws.{Is, shows}
 use denote.Plain.{uint_Makes}
 use denote.RattleType.{RattleType}
-use denote.Ref.{shr_vals}
 use denote.Slice.{Room, ShrSlice, finally}
 use denote.Steps.{facts, heard, nothing, only, owned}
 use denote.Struct.Laws as LL
@@ -25,7 +24,7 @@ use denote.Triple.Statement.{Contract}
 use denote.Triple.Walked.{says}
 use types.Logic.{Logic, sem}
 use mir.Syntax.{named, w64}
-use mir.Val.{Val, vint, vptr}
+use mir.Val.{Val, vint}
 use prog.Memory.{Memory}
 use prog.Routine.{Routine}
 use types.Kit.{ !, ◌$◌, ◌∵◌, ◌⊛◌, await, check, done, drop as dropᴷ, feq_l, fjoin, frame, fsplit, join, keep}
@@ -33,10 +32,9 @@ use types.Kit.{later, move, now as at_once, pick, qed, raw, show, some, split, u
 use Rattle.jobs.specs.contracts.Step as S
 use Rattle.jobs.proofs.Step.TheLaws as S'
 use Rattle.jobs.specs.declared.Step.{Step}
-use Rattle.clifford_impl.specs.internal.Composing.{Composes}
 use Rattle.operations.specs.Used.{UsedRecord}
 use Rattle.call_run.proofs.Lending.{Lent, Own, ref, val}
-use Rattle.call_run.proofs.TurnCall.{Fitting, Now, Table, TableLasting, Tabled, Turning, left}
+use Rattle.call_run.proofs.TurnCall.{Fitting, Now, Turning, left}
 use Rattle.call_run.specs.contracts.lent.run_lent as run_lent
 use Rattle.call_run.specs.internal.LentRuns.{ReadyAt, WaitingRun}
 
@@ -72,9 +70,6 @@ module _ (X : Passed) where
   abbrev L₃ : Lent u8
   L₃ = T.answers
 
-  abbrev t : Table
-  t = T.table
-
   -- what the loop begins with, and the record that is lent
   abbrev pub start : Now
   start = record { neighbours = L₀.first; codes = L₁.first; used = X.used; answers = L₃.first }
@@ -84,18 +79,17 @@ module _ (X : Passed) where
 
   abbrev pub Asks : Type 0
   Asks = (T.place + length L₂.first ≤ length L₃.first) × ReadyAt T.place L₃.first record-lent
-      × Composes t.at.now
 
   -- all steps were run, and the lists are y
   abbrev pub Ran : Now → Type 0
   Ran y = WaitingRun record-lent L₂.first T.place L₃.first y.neighbours y.codes y.used y.answers
 
   -- ---- the arguments, and their machine values
-  abbrev pub κs : Lfts 5
-  κs = (L₀.κ, (L₁.κ, (L₂.κ, (L₃.κ, (t.κ, tt)))))
+  abbrev pub κs : Lfts 4
+  κs = (L₀.κ, (L₁.κ, (L₂.κ, (L₃.κ, tt))))
 
-  abbrev pub qs : Shares 5
-  qs = (L₀.q, (L₁.q, (L₂.q, (L₃.q, (t.q, tt)))))
+  abbrev pub qs : Shares 4
+  qs = (L₀.q, (L₁.q, (L₂.q, (L₃.q, tt))))
 
   abbrev pub args : Args run_lent.signature κs
   args = (
@@ -108,7 +102,7 @@ module _ (X : Passed) where
           X.used,
           (
             ref R L₂ L₂.γ L₂.first,
-            (T.place, (ref u8 L₃ L₃.γ L₃.first, (t.at, tt))),
+            (T.place, (ref u8 L₃ L₃.γ L₃.first, tt)),
           ),
         ),
       ),
@@ -120,23 +114,13 @@ module _ (X : Passed) where
     vint w64 T.n ∷ [],
     (
       val u64 L₀ ∷ [],
-      (
-        val u8 L₁ ∷ [],
-        (
-          vint w64 X.used ∷ [],
-          (
-            val R L₂ ∷ [],
-            (vint w64 T.place ∷ [], (val u8 L₃ ∷ [], (shr_vals t.at, tt))),
-          ),
-        ),
-      ),
+      (val u8 L₁ ∷ [], (vint w64 X.used ∷ [], (val R L₂ ∷ [], (vint w64 T.place ∷ [], (val u8 L₃ ∷ [], tt))))),
     ),
   )
 
   abbrev pub values : List Val
   values =
-      vint w64 T.n ∷ val u64 L₀ ∷ val u8 L₁ ∷ vint w64 X.used ∷ val R L₂ ∷ vint w64 T.place ∷ val u8 L₃
-      ∷ vptr t.at.ptr.0 t.at.ptr.1 ∷ []
+      vint w64 T.n ∷ val u64 L₀ ∷ val u8 L₁ ∷ vint w64 X.used ∷ val R L₂ ∷ vint w64 T.place ∷ val u8 L₃ ∷ []
 
   -- they fit their types
   pub record Sized : Type 0 where
@@ -158,16 +142,16 @@ module _ (X : Passed) where
   -- ---- a call: what is given for it, and what is had after it
   abbrev pub given-for : List Fml
   given-for =
-      flft L₀.κ L₀.q ∷ flft L₁.κ L₁.q ∷ Lasting ∷ flft L₃.κ L₃.q ∷ TableLasting t
-      ∷ Own u64 L₀ (named 0) L₀.first ∷ Own u8 L₁ (named 1) L₁.first
-      ∷ Steps ∷ Own u8 L₃ (named 3) L₃.first ∷ Tabled t ∷ []
+      flft L₀.κ L₀.q ∷ flft L₁.κ L₁.q ∷ Lasting ∷ flft L₃.κ L₃.q ∷ Own u64 L₀ (named 0) L₀.first ∷
+      Own u8 L₁ (named 1) L₁.first
+      ∷ Steps ∷ Own u8 L₃ (named 3) L₃.first ∷ []
 
   -- the tokens, and the last lists, but for the token of the steps
   abbrev pub Done : Now → Fml
   Done y =
-      fsep (flft L₀.κ L₀.q) (fsep (flft L₁.κ L₁.q) (fsep (flft L₃.κ L₃.q) (fsep (TableLasting t)
+      fsep (flft L₀.κ L₀.q) (fsep (flft L₁.κ L₁.q) (fsep (flft L₃.κ L₃.q)
       (fsep (finally u64 L₀.γ y.neighbours) (fsep (finally u8 L₁.γ y.codes)
-      (finally u8 L₃.γ y.answers))))))
+      (finally u8 L₃.γ y.answers)))))
 
   pub record Returned (v : Val) (y : Now) : Type 0 where
     pub is : v ≡ vint w64 y.used
@@ -184,17 +168,16 @@ module _ (X : Passed) where
     pub called : Sized → Asks → ent 𝓤 (⋆ 𝓛 (map ‵ given-for)) ((RunLent 𝓛 mem run).pre to)
     called G asks =
         qed 𝓛 (map ‵ given-for) ∵ says ! asks $
-        nothing ! $ move ! (5 ∷ 0 ∷ []) $ join ! $ move ! (4 ∷ 0 ∷ []) $ join ! $ move ! (3 ∷ 0 ∷ []) $ join ! $ move !
-        (2 ∷ 0 ∷ []) $ join ! $ move ! (1 ∷ 0 ∷ []) $ join ! $ frame ! $
-        nothing ! $ move ! (5 ∷ 0 ∷ []) $ fjoin ! $ move ! (4 ∷ 0 ∷ []) $ fjoin ! $ owned ! usize (Is usize)
-        (uint_Makes 𝓛 w64) T.place _
+        nothing ! $ move ! (4 ∷ 0 ∷ []) $ join ! $ move ! (3 ∷ 0 ∷ []) $ join ! $ move ! (2 ∷ 0 ∷ []) $ join ! $ move !
+        (1 ∷ 0 ∷ []) $ join ! $ frame ! $
+        nothing ! $ move ! (4 ∷ 0 ∷ []) $ fjoin ! $ owned ! usize (Is usize) (uint_Makes 𝓛 w64) T.place _
         (refl, G.place) $ fjoin ! $ move ! (3 ∷ 0 ∷ []) $ fjoin ! $
         owned ! u64 (Is u64) (uint_Makes 𝓛 w64) X.used _ (refl, G.used) $ fjoin ! $
         move ! (2 ∷ 0 ∷ []) $ fjoin ! $ move ! (1 ∷ 0 ∷ []) $ fjoin ! $ owned ! u64 (Is u64) (uint_Makes 𝓛 w64)
         T.n _ (refl, G.n) $ fjoin ! $ done !
 
     abbrev Ends : Type 0
-    Ends = Unit {0} × (List ℕ × (List ℕ × (Unit {0} × (Unit {0} × (Unit {0} × (List ℕ × (Unit {0} × Unit {0})))))))
+    Ends = Unit {0} × (List ℕ × (List ℕ × (Unit {0} × (Unit {0} × (Unit {0} × (List ℕ × Unit {0}))))))
 
     abbrev after : Ends → ℕ → Now
     after ws r = record { neighbours = ws.1.0; codes = ws.1.1.0; used = r; answers = ws.1.1.1.1.1.1.0 }
@@ -207,8 +190,7 @@ module _ (X : Passed) where
     returned v =
         qed 𝓛 (raw ((RunLent 𝓛 mem run).post to v) ∷ []) ∵ updating ! $
         use1 𝓛 (later (some (λ (r : ℕ). ((‵ (flft L₀.κ L₀.q) ⊛
-        (‵ (flft L₁.κ L₁.q) ⊛ (‵ Lasting ⊛ (‵ (flft L₃.κ L₃.q) ⊛ (‵ (TableLasting t) ⊛ ‵ ftrue))))) ⊛ ‵
-        (u64.own_val r (v ∷ [])))
+        (‵ (flft L₁.κ L₁.q) ⊛ (‵ Lasting ⊛ (‵ (flft L₃.κ L₃.q) ⊛ ‵ ftrue)))) ⊛ ‵ (u64.own_val r (v ∷ [])))
         ⊛ raw (Said r))))
         (id⊢ 𝓤 _) $ await ! tt $ pick ! (λ r. split ! $ move ! (1 ∷ []) $
         use1 𝓛 (some (λ (ws : Ends). ‵ (lasts run_lent.ended κs args ws) ⊛ raw (fact 𝓤 (Ran (after ws r))))) (id⊢ 𝓤 _) $
@@ -219,12 +201,10 @@ module _ (X : Passed) where
         fsplit ! $ dropᴷ ! $ fsplit ! $ dropᴷ ! $ fsplit ! $ fsplit ! $ move ! (1 ∷ []) $ feq_l !
         (λ e₃. move ! (4 ∷ []) $ split ! $
         move ! (1 ∷ []) $ facts ! u64 (Is u64) (shows 𝓛 u64) r (v ∷ []) (λ is.
-        split ! $ move ! (1 ∷ []) $ split ! $ move ! (1 ∷ []) $ split ! $ move ! (1 ∷ []) $ split ! $ move ! (1 ∷ []) $
-        split ! $
-        -- [the token of the table; -; of the answers; of the steps; of the codes; of the neighbours; the last answers;
-        -- -; the last codes; the last neighbours]
-        keep ! (8 ∷ 6 ∷ 9 ∷ 0 ∷ 2 ∷ 4 ∷ 5 ∷ 3 ∷ []) $ fjoin ! $ move ! (1 ∷ 0 ∷ []) $ fjoin ! $ move ! (1 ∷ 0 ∷ []) $
-        fjoin ! $ move ! (1 ∷ 0 ∷ []) $ fjoin
+        split ! $ move ! (1 ∷ []) $ split ! $ move ! (1 ∷ []) $ split ! $ move ! (1 ∷ []) $ split ! $
+        -- [the token of the answers; -; of the steps; of the codes; of the neighbours; the last answers; -; the last
+        -- codes; the last neighbours]
+        keep ! (7 ∷ 5 ∷ 8 ∷ 0 ∷ 3 ∷ 4 ∷ 2 ∷ []) $ fjoin ! $ move ! (1 ∷ 0 ∷ []) $ fjoin ! $ move ! (1 ∷ 0 ∷ []) $ fjoin
         ! $ move ! (1 ∷ 0 ∷ []) $ fjoin ! $
         move ! (1 ∷ 0 ∷ []) $ fjoin ! $ move ! (1 ∷ 0 ∷ []) $ at_once ! $
         show ! (λ (y : Now). guard 𝓤 (Returned v y) (sep 𝓤 (sem 𝓛 Lasting) (sem 𝓛 (Done y)))) (after ws r) $

@@ -43,7 +43,6 @@ use mir.Syntax.{
 }
 use Rattle.jobs.specs.contracts.Step as S
 use Rattle.jobs.proofs.Step.TheLaws as S'
-use Rattle.call_run.proofs.TurnCall.{Codes}
 use Rattle.call_run.proofs.lent.turn.Symbol.{name as #turn}
 
 -- ---- types of the locals
@@ -80,38 +79,34 @@ slice₂ = slice_ty (ty_ref (named 2) imm (pointee R.written))
 abbrev slice₃ : Ty
 slice₃ = slice_ty (ty_ref (named 3) mut byte)
 
-abbrev table : Ty
-table = ty_ref (named 4) imm (pointee Codes.written)
-
 abbrev value : Ty → Local
 value τ = local τ value_local
 
 abbrev pub locals : List Local
 locals =
     value word ∷ value word ∷ value slice₀ ∷ value slice₁ ∷ value word ∷ value slice₂ ∷ value word ∷ value slice₃
-    ∷ value table ∷ value word ∷ value word ∷ value word ∷ value ty_bool ∷ value ptr_w ∷ value slice_w ∷ value ptr_b ∷
-    value slice_b
+    ∷ value word ∷ value word ∷ value word ∷ value ty_bool ∷ value ptr_w ∷ value slice_w ∷ value ptr_b ∷ value slice_b
     ∷ value ty_ptr ∷ value S'.mir ∷ value ptr_b ∷ value slice_b ∷ []
 
 -- ---- the loop's body, and what follows it
 abbrev pub body : Code
 body =
-    seq (assign (placeᴹ 11 []) (rv_opd (copy (placeᴹ 5 (field 1 ∷ [])))))
-    (seq (assign (placeᴹ 12 []) (op2 (lt unsigned) (copy (placeᴹ 10 [])) (copy (placeᴹ 11 []))))
-    (seq (cond (copy (placeᴹ 12 [])) skipᴹ (exit 1))
-    (seq (assign (placeᴹ 13 []) (addr_of (placeᴹ 2 (field 0 ∷ deref word ∷ []))))
-    (seq (assign (placeᴹ 14 []) (aggregate (copy (placeᴹ 13 []) ∷ copy (placeᴹ 2 (field 1 ∷ [])) ∷ [])))
-    (seq (assign (placeᴹ 15 []) (addr_of (placeᴹ 3 (field 0 ∷ deref byte ∷ []))))
-    (seq (assign (placeᴹ 16 []) (aggregate (copy (placeᴹ 15 []) ∷ copy (placeᴹ 3 (field 1 ∷ [])) ∷ [])))
-    (seq (assign (placeᴹ 11 []) (op2 (mul unsigned) (copy (placeᴹ 10 [])) (int w64 8)))
-    (seq (assign (placeᴹ 17 []) (op2 offset (copy (placeᴹ 5 (field 0 ∷ []))) (copy (placeᴹ 11 []))))
-    (seq (assign (placeᴹ 18 []) (rv_opd (copy (placeᴹ 17 (deref S'.mir ∷ [])))))
-    (seq (assign (placeᴹ 19 []) (addr_of (placeᴹ 7 (field 0 ∷ deref byte ∷ []))))
-    (seq (assign (placeᴹ 20 []) (aggregate (copy (placeᴹ 19 []) ∷ copy (placeᴹ 7 (field 1 ∷ [])) ∷ [])))
-    (seq (call #turn (copy (placeᴹ 1 []) ∷ copy (placeᴹ 14 []) ∷ copy (placeᴹ 16 []) ∷ copy (placeᴹ 9 []) ∷ copy
-    (placeᴹ 18 [])
-    ∷ copy (placeᴹ 6 []) ∷ copy (placeᴹ 10 []) ∷ copy (placeᴹ 20 []) ∷ copy (placeᴹ 8 []) ∷ []) (placeᴹ 9 []))
-    (assign (placeᴹ 10 []) (op2 (add unsigned) (copy (placeᴹ 10 [])) (int w64 1)))))))))))))))
+    seq (assign (placeᴹ 10 []) (rv_opd (copy (placeᴹ 5 (field 1 ∷ [])))))
+    (seq (assign (placeᴹ 11 []) (op2 (lt unsigned) (copy (placeᴹ 9 [])) (copy (placeᴹ 10 []))))
+    (seq (cond (copy (placeᴹ 11 [])) skipᴹ (exit 1))
+    (seq (assign (placeᴹ 12 []) (addr_of (placeᴹ 2 (field 0 ∷ deref word ∷ []))))
+    (seq (assign (placeᴹ 13 []) (aggregate (copy (placeᴹ 12 []) ∷ copy (placeᴹ 2 (field 1 ∷ [])) ∷ [])))
+    (seq (assign (placeᴹ 14 []) (addr_of (placeᴹ 3 (field 0 ∷ deref byte ∷ []))))
+    (seq (assign (placeᴹ 15 []) (aggregate (copy (placeᴹ 14 []) ∷ copy (placeᴹ 3 (field 1 ∷ [])) ∷ [])))
+    (seq (assign (placeᴹ 10 []) (op2 (mul unsigned) (copy (placeᴹ 9 [])) (int w64 8)))
+    (seq (assign (placeᴹ 16 []) (op2 offset (copy (placeᴹ 5 (field 0 ∷ []))) (copy (placeᴹ 10 []))))
+    (seq (assign (placeᴹ 17 []) (rv_opd (copy (placeᴹ 16 (deref S'.mir ∷ [])))))
+    (seq (assign (placeᴹ 18 []) (addr_of (placeᴹ 7 (field 0 ∷ deref byte ∷ []))))
+    (seq (assign (placeᴹ 19 []) (aggregate (copy (placeᴹ 18 []) ∷ copy (placeᴹ 7 (field 1 ∷ [])) ∷ [])))
+    (seq (call #turn (copy (placeᴹ 1 []) ∷ copy (placeᴹ 13 []) ∷ copy (placeᴹ 15 []) ∷ copy (placeᴹ 8 []) ∷ copy
+    (placeᴹ 17 [])
+    ∷ copy (placeᴹ 6 []) ∷ copy (placeᴹ 9 []) ∷ copy (placeᴹ 19 []) ∷ []) (placeᴹ 8 []))
+    (assign (placeᴹ 9 []) (op2 (add unsigned) (copy (placeᴹ 9 [])) (int w64 1)))))))))))))))
 
 abbrev pub rest : Code
-rest = seq (assign (placeᴹ 0 []) (rv_opd (copy (placeᴹ 9 [])))) return
+rest = seq (assign (placeᴹ 0 []) (rv_opd (copy (placeᴹ 8 [])))) return

@@ -61,7 +61,6 @@ use Rattle.jobs.specs.contracts.Step as S
 use Rattle.jobs.proofs.Step.TheLaws as S'
 use Rattle.jobs.specs.declared.Op.TheVariants.{Gate}
 use Rattle.jobs.specs.declared.Step.{Step}
-use Rattle.clifford_impl.specs.internal.Composing.{Composes}
 use Rattle.call_run.proofs.Counting.{fails, holds, next_small, one_more, scaled, zero-sum}
 use Rattle.call_run.proofs.Lending.{Lent, ref, val}
 use Rattle.call_run.proofs.LentCall.{Asks, Lasting, Passed, R, Ran, Sized, Vs, record-lent, start, values}
@@ -137,7 +136,7 @@ module _ {M : Type 1} {𝓤 : Ura M} (𝓛 : Logic 𝓤) (mem : Memory → SProp
     abbrev En : Env 𝓤 H
     En = at 𝓛 locals p
 
-    -- [the steps; their token; the three slices and the table; the locals, number j at 3 + j; ..]
+    -- [the steps; their token; the three slices; the locals, number j at 3 + j; ..]
     abbrev At : ℕ → Now → List (Item 𝓤)
     At i x = ‵ Shared ∷ ‵ (Lasting X) ∷ ‵ (Buffers T x) ∷ (lying 𝓛 En
         (none ∷ map holding (values X ++ (vint w64 x.used ∷ vint w64 i ∷ [])))
@@ -149,7 +148,7 @@ module _ {M : Type 1} {𝓤 : Ura M} (𝓛 : Logic 𝓤) (mem : Memory → SProp
 
     -- ---- a turn that goes on
     more : (i : ℕ) (x : Now) (Y : SProp 𝓤) → i < m → Fitting T x → (T.place + i < length x.answers) × ReadyAt
-        (T.place + i) x.answers (left T.n x) × Composes T.table.at.now
+        (T.place + i) x.answers (left T.n x)
         → ((v : Val) (y : Now) → Came T x (elem i) i v y → ent 𝓤 (⋆ 𝓛 (At (suc i) y)) Y)
         → ent 𝓤 (⋆ 𝓛 (At i x)) (Wp 𝓤 H C Λ En body (after_turn 𝓤 H Y Left))
     unfolding after_turn
@@ -157,28 +156,28 @@ module _ {M : Type 1} {𝓤 : Ura M} (𝓛 : Logic 𝓤) (mem : Memory → SProp
         qed 𝓛 (At i x) ∵
         exec ! C Λ En body (any_q (after_turn 𝓤 H Y Left)) $
         assigns ! (of_opd ! (load ! (from ! (fld ! refl (stop !))) (look_in ! 8 (sub ! 1 refl (whole !)))))
-        (from ! (stop !)) (init ! 14 refl (tt, record { fits = G.steps.0 })) $
-        assigns ! (bin ! (load ! (from ! (stop !)) (look ! 13 refl)) (load ! (from ! (stop !)) (look ! 14 refl)) tt)
-        (from ! (stop !)) (init ! 15 refl (tt, tt)) $
-        rewrite ! 15 (λ (t : Bool). ‵ (fat full_share ty_bool (block locals p 12) 0 (vbool t)))
+        (from ! (stop !)) (init ! 13 refl (tt, record { fits = G.steps.0 })) $
+        assigns ! (bin ! (load ! (from ! (stop !)) (look ! 12 refl)) (load ! (from ! (stop !)) (look ! 13 refl)) tt)
+        (from ! (stop !)) (init ! 14 refl (tt, tt)) $
+        rewrite ! 14 (λ (t : Bool). ‵ (fat full_share ty_bool (block locals p 11) 0 (vbool t)))
         (holds (ltb i m) (lt→ltb i m small)) refl $
-        stays ! (load ! (from ! (stop !)) (look ! 15 refl)) $
+        stays ! (load ! (from ! (stop !)) (look ! 14 refl)) $
         assigns ! (addr ! (from ! (fld ! refl (hop ! (look_in ! 5 (sub ! 0 refl (whole !))) (stop !)))))
-        (from ! (stop !)) (init ! 16 refl (tt, tt)) $
-        assigns ! (agg ! (and_then ! (load ! (from ! (stop !)) (look ! 16 refl))
+        (from ! (stop !)) (init ! 15 refl (tt, tt)) $
+        assigns ! (agg ! (and_then ! (load ! (from ! (stop !)) (look ! 15 refl))
         (and_then ! (load ! (from ! (fld ! refl (stop !))) (look_in ! 5 (sub ! 1 refl (whole !)))) (no_more !))))
-        (from ! (stop !)) (init ! 17 refl (tt, (tt, (record { fits = G.neighbours.0 }, tt)))) $
+        (from ! (stop !)) (init ! 16 refl (tt, (tt, (record { fits = G.neighbours.0 }, tt)))) $
         assigns ! (addr ! (from ! (fld ! refl (hop ! (look_in ! 6 (sub ! 0 refl (whole !))) (stop !)))))
-        (from ! (stop !)) (init ! 18 refl (tt, tt)) $
-        assigns ! (agg ! (and_then ! (load ! (from ! (stop !)) (look ! 18 refl))
+        (from ! (stop !)) (init ! 17 refl (tt, tt)) $
+        assigns ! (agg ! (and_then ! (load ! (from ! (stop !)) (look ! 17 refl))
         (and_then ! (load ! (from ! (fld ! refl (stop !))) (look_in ! 6 (sub ! 1 refl (whole !)))) (no_more !))))
-        (from ! (stop !)) (init ! 19 refl (tt, (tt, (record { fits = G.codes.0 }, tt)))) $
-        assigns ! (bin ! (load ! (from ! (stop !)) (look ! 13 refl)) (lit ! tt)
+        (from ! (stop !)) (init ! 18 refl (tt, (tt, (record { fits = G.codes.0 }, tt)))) $
+        assigns ! (bin ! (load ! (from ! (stop !)) (look ! 12 refl)) (lit ! tt)
         (record { fits = scaled G.steps.1 small })) (from ! (stop !))
-        (store ! 14 refl (tt, record { fits = scaled G.steps.1 small })) $
+        (store ! 13 refl (tt, record { fits = scaled G.steps.1 small })) $
         assigns ! (bin ! (load ! (from ! (fld ! refl (stop !))) (look_in ! 8 (sub ! 0 refl (whole !))))
-        (load ! (from ! (stop !)) (look ! 14 refl)) tt) (from ! (stop !)) (init ! 20 refl (tt, tt)) $
-        rewrite ! 20 (λ (o : ℕ). ‵ (fat full_share ty_ptr (block locals p 17) 0 (vptr L₂.b o)))
+        (load ! (from ! (stop !)) (look ! 13 refl)) tt) (from ! (stop !)) (init ! 19 refl (tt, tt)) $
+        rewrite ! 19 (λ (o : ℕ). ‵ (fat full_share ty_ptr (block locals p 16) 0 (vptr L₂.b o)))
         (sym (place_is 8 L₂.o i)) refl $
         -- the slice of steps is looked into, step i is read and put back
         looks_slice ! tt R (Is R) (shows 𝓛 R) Vs Tells (LL.copy S.the_type S'.the_copy 𝓛) L₂.first L₂.b
@@ -186,18 +185,18 @@ module _ {M : Type 1} {𝓤 : Ura M} (𝓛 : Logic 𝓤) (mem : Memory → SProp
         elem_out ! R (Is R) (shows 𝓛 R) Vs Tells q' L₂.first i no_step L₂.b L₂.o small (λ ge.
         use1 𝓛 (‵ (fat q' S'.mir L₂.b (place 8 L₂.o i) (mach (elem i))))
         (𝓛.laws.raw_at q' S'.mir L₂.b (place 8 L₂.o i) (mach (elem i))) $
-        assigns ! (of_opd ! (load ! (from ! (hop ! (look ! 23 refl) (stop !))) (look ! 0 refl))) (from ! (stop !))
-        (init ! 24 refl (typed (elem i) ge)) $
+        assigns ! (of_opd ! (load ! (from ! (hop ! (look ! 22 refl) (stop !))) (look ! 0 refl))) (from ! (stop !))
+        (init ! 23 refl (typed (elem i) ge)) $
         use1 𝓛 (‵ (cell_at q' R.mir (mach (elem i) ∷ []) L₂.b (place 8 L₂.o i)))
         (𝓛.laws.at_raw q' S'.mir L₂.b (place 8 L₂.o i) (mach (elem i))) $
         elem_back ! R q' L₂.first i no_step (mach (elem i) ∷ []) L₂.b L₂.o small $ shuts_slice ! tt R q'
         L₂.first L₂.b L₂.o $
         assigns ! (addr ! (from ! (fld ! refl (hop ! (look_in ! 10 (sub ! 0 refl (whole !))) (stop !)))))
-        (from ! (stop !)) (init ! 22 refl (tt, tt)) $
-        assigns ! (agg ! (and_then ! (load ! (from ! (stop !)) (look ! 22 refl))
+        (from ! (stop !)) (init ! 21 refl (tt, tt)) $
+        assigns ! (agg ! (and_then ! (load ! (from ! (stop !)) (look ! 21 refl))
         (and_then ! (load ! (from ! (fld ! refl (stop !))) (look_in ! 10 (sub ! 1 refl (whole !)))) (no_more !))))
-        (from ! (stop !)) (init ! 23 refl (tt, (tt, (record { fits = G.answers.0 }, tt)))) $
-        -- the call, to which the three slices go out, and the table, and they come in
+        (from ! (stop !)) (init ! 22 refl (tt, (tt, (record { fits = G.answers.0 }, tt)))) $
+        -- the call, to which the three slices go out, and they come in
         move ! (2 ∷ []) $
         use1 𝓛 (later (some (λ (g : Names). raw ((Turn 𝓛 mem run).pre (to T 𝓛 mem run x (elem i) i g)) ⊛ ‵
         (Kepts T g x))))
@@ -205,27 +204,26 @@ module _ {M : Type 1} {𝓤 : Ura M} (𝓛 : Logic 𝓤) (mem : Memory → SProp
         ! tt $ pick ! (λ g. split ! $
         calls_at ! (fm_of 𝓤 H 𝓛.laws 𝓣) (Turn 𝓛 mem run) knows (to T 𝓛 mem run x (elem i) i g)
         (and_then ! (load ! (from ! (stop !)) (look ! 5 refl))
-        (and_then ! (load ! (from ! (stop !)) (look ! 18 refl))
-        (and_then ! (load ! (from ! (stop !)) (look ! 20 refl))
-        (and_then ! (load ! (from ! (stop !)) (look ! 13 refl))
-        (and_then ! (load ! (from ! (stop !)) (look ! 22 refl))
+        (and_then ! (load ! (from ! (stop !)) (look ! 17 refl))
+        (and_then ! (load ! (from ! (stop !)) (look ! 19 refl))
+        (and_then ! (load ! (from ! (stop !)) (look ! 12 refl))
+        (and_then ! (load ! (from ! (stop !)) (look ! 21 refl))
         (and_then ! (load ! (from ! (stop !)) (look ! 10 refl))
-        (and_then ! (load ! (from ! (stop !)) (look ! 14 refl))
-        (and_then ! (load ! (from ! (stop !)) (look ! 24 refl))
-        (and_then ! (load ! (from ! (stop !)) (look ! 12 refl)) (no_more !)))))))))) (λ v.
+        (and_then ! (load ! (from ! (stop !)) (look ! 13 refl))
+        (and_then ! (load ! (from ! (stop !)) (look ! 23 refl)) (no_more !))))))))) (λ v.
         use2 𝓛 (later (some (λ (y : Now). given (Came T x (elem i) i v y) (‵ (Buffers T y)))))
         (returned T 𝓛 mem run x (elem i) i F G.neighbours G.codes G.answers g v) $ await ! tt $ pick !
         (λ y. learn ! (λ c.
-        land ! (from ! (stop !)) (store ! 12 refl (subst (λ (r : Val). Holds (has_ty word r) × WT r) (sym c.is)
+        land ! (from ! (stop !)) (store ! 11 refl (subst (λ (r : Val). Holds (has_ty word r) × WT r) (sym c.is)
         (tt, record { fits = c.fits }))) $
-        rewrite ! 12 (λ (r : Val). ‵ (fat full_share word (block locals p 9) 0 r)) c.is refl $
-        assigns_last ! (bin ! (load ! (from ! (stop !)) (look ! 13 refl)) (lit ! tt)
+        rewrite ! 11 (λ (r : Val). ‵ (fat full_share word (block locals p 8) 0 r)) c.is refl $
+        assigns_last ! (bin ! (load ! (from ! (stop !)) (look ! 12 refl)) (lit ! tt)
         (record { fits = next_small small G.steps.0 })) (from ! (stop !))
-        (store ! 13 refl (tt, record { fits = next_small small G.steps.0 })) $
-        rewrite ! 13 (λ (j : ℕ). ‵ (fat full_share word (block locals p 10) 0 (vint w64 j))) (one_more i) refl $ forget !
-        14 refl $ forget ! 15 refl $ forget ! 16 refl $
-        forget ! 17 refl $ forget ! 18 refl $ forget ! 19 refl $ forget ! 20 refl $ forget ! 21 refl $ forget ! 22 refl
-        $ forget ! 23 refl $
+        (store ! 12 refl (tt, record { fits = next_small small G.steps.0 })) $
+        rewrite ! 12 (λ (j : ℕ). ‵ (fat full_share word (block locals p 9) 0 (vint w64 j))) (one_more i) refl $ forget !
+        13 refl $ forget ! 14 refl $ forget ! 15 refl $
+        forget ! 16 refl $ forget ! 17 refl $ forget ! 18 refl $ forget ! 19 refl $ forget ! 20 refl $ forget ! 21 refl
+        $ forget ! 22 refl $
         move ! (2 ∷ 1 ∷ 0 ∷ []) $ by ! (k v y c)))))))
 
     -- ---- the turn that leaves the loop, and the rest of the body
@@ -236,16 +234,16 @@ module _ {M : Type 1} {𝓤 : Ura M} (𝓛 : Logic 𝓤) (mem : Memory → SProp
         qed 𝓛 (At m x) ∵
         exec ! C Λ En body (any_q (after_turn 𝓤 H Y Left)) $
         assigns ! (of_opd ! (load ! (from ! (fld ! refl (stop !))) (look_in ! 8 (sub ! 1 refl (whole !)))))
-        (from ! (stop !)) (init ! 14 refl (tt, record { fits = G.steps.0 })) $
-        assigns ! (bin ! (load ! (from ! (stop !)) (look ! 13 refl)) (load ! (from ! (stop !)) (look ! 14 refl)) tt)
-        (from ! (stop !)) (init ! 15 refl (tt, tt)) $
-        rewrite ! 15 (λ (t : Bool). ‵ (fat full_share ty_bool (block locals p 12) 0 (vbool t)))
+        (from ! (stop !)) (init ! 13 refl (tt, record { fits = G.steps.0 })) $
+        assigns ! (bin ! (load ! (from ! (stop !)) (look ! 12 refl)) (load ! (from ! (stop !)) (look ! 13 refl)) tt)
+        (from ! (stop !)) (init ! 14 refl (tt, tt)) $
+        rewrite ! 14 (λ (t : Bool). ‵ (fat full_share ty_bool (block locals p 11) 0 (vbool t)))
         (fails (ltb m m) (λ a. lt_irrefl m (ltb→lt m m a))) refl $
-        leaves_loop ! (load ! (from ! (stop !)) (look ! 15 refl)) $ exec ! C Λ En rest
+        leaves_loop ! (load ! (from ! (stop !)) (look ! 14 refl)) $ exec ! C Λ En rest
         (at_ret En (Post 𝓛 mem run X)) $
-        assigns ! (of_opd ! (load ! (from ! (stop !)) (look ! 12 refl))) (from ! (stop !))
+        assigns ! (of_opd ! (load ! (from ! (stop !)) (look ! 11 refl))) (from ! (stop !))
         (init ! 3 refl (tt, record { fits = F.fits })) $
-        move ! (span 3 22) $ leaves 𝓛 C Λ word p.0 (at 𝓛 (behind locals) p.1) (vint w64 x.used)
+        move ! (span 3 21) $ leaves 𝓛 C Λ word p.0 (at 𝓛 (behind locals) p.1) (vint w64 x.used)
         (map holding (values X ++ (vint w64 x.used ∷ vint w64 m ∷ vint w64 m ∷ vbool false ∷ []))) $
         -- [the steps; their token; the three slices; ..]
         move ! (4 ∷ 0 ∷ []) $ fjoin ! $ move ! (3 ∷ 0 ∷ []) $ fjoin ! $ keep ! (2 ∷ 1 ∷ 0 ∷ []) $ by !
@@ -285,8 +283,8 @@ module _ {M : Type 1} {𝓤 : Ura M} (𝓛 : Logic 𝓤) (mem : Memory → SProp
         x.neighbours x.codes x.used x.answers f))
     turn_at (suc t) i x f =
         more i x (Below (suc t)) (omega (arith, f.count)) (fitting (suc t) i x f)
-        (let A = upto-asks (record-lent X) L₂.first T.place L₃.first t i x.neighbours x.codes x.used
-        x.answers f asks.0 asks.1 in (A.0, A.1, asks.2))
+        (upto-asks (record-lent X) L₂.first T.place L₃.first t i x.neighbours x.codes x.used
+        x.answers f asks.0 asks.1)
         (λ v y c. via 𝓤 (Inv t) (into t (suc i, y) (upto_next (record-lent X) L₂.first T.place L₃.first t i
         x.neighbours x.codes x.used x.answers f asks.0 no_step
         y.neighbours y.codes y.used y.answers c.fits c.neighbours-long c.codes-long

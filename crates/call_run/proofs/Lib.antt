@@ -1,7 +1,6 @@
 pub mod Again
 pub mod Blocks
 pub mod Counting
-pub mod GateTurns
 pub mod KeptAnswers
 pub mod KeptRecords
 pub mod LastRecord

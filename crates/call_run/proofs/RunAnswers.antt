@@ -21,7 +21,7 @@ use Rattle.jobs.proofs.StepAnswers.{each-answered, part-at}
 use Rattle.call_run.proofs.KeptAnswers.{kept-tells}
 use Rattle.call_run.specs.internal.LentRuns.{LentRun}
 use Rattle.stabilizer.proofs.SharedTests.{has-length}
-use Rattle.operations.specs.Used.{UsedRecord, UsedUnrefused, used_lines, used_record}
+use Rattle.operations.specs.Used.{UsedRecord, UsedUnrefused, used_lines}
 use Rattle.words.proofs.Flags.{neither}
 use Rattle.calls.proofs.RunLines.{after-15, no-further-argument}
 use Rattle.call_run.proofs.Telling.{determined_at, outcome_at, refusal_at}
@@ -107,9 +107,8 @@ module _ (u : UsedRecord) (s : LentSteps) (asked answered : Bool)
       (reaching 7 s.ops)))
       (ap₂ ◌||◌ ea eb)
 
-  pub run-refused : (k ≡ 0 → ⊥) → Call (run_call u s
-      (used_record u.held.n u.held.neighbours u.held.codes u.used) s.refusals s.outcomes
-      s.determined) k
+  pub run-refused : (k ≡ 0 → ⊥) → Call (run_call u s u.held.neighbours u.held.codes u.used s.refusals
+      s.outcomes s.determined) k
   run-refused h = refused _ at-lines h (refl, (refl, (refl, (refl, (refl, (refl, tt))))))
 
   module _ (z : k ≡ 0) where
@@ -122,7 +121,7 @@ module _ (u : UsedRecord) (s : LentSteps) (asked answered : Bool)
         → refusals ≡ tabulate (length kept) (refusal_at kept)
         → outcomes ≡ tabulate (length kept) (outcome_at kept)
         → determined ≡ tabulate (length kept) (determined_at kept)
-        → Call (run_call u s (used_record u.held.n nb cs used) refusals outcomes determined) 0
+        → Call (run_call u s nb cs used refusals outcomes determined) 0
     run-accepted nb cs used kept refusals outcomes determined R long er eo ed = done _ at-lines z (
       ran.marks,
       (

@@ -43,8 +43,7 @@ use Rattle.calls.proofs.InPlaceCalls.{left-by-call, marked-by-call}
 use Rattle.calls.proofs.SourceCalls.{observe-as-measured}
 use Rattle.calls.specs.InPlace.{used_call, used_measure_call}
 use Rattle.calls.specs.Sources.{observe_call, renew_call}
-use Rattle.calls.specs.Asked.{lent_outcome, pauli_asked}
-use Rattle.operations.specs.Used.{UsedRecord, used_after, used_lines, used_record, used_step}
+use Rattle.operations.specs.Used.{UsedRecord, used_after, used_lines, used_step}
 use Rattle.source.proofs.Observed.{answered}
 use Rattle.source.specs.Renewal.{renewed}
 use Rattle.words.proofs.Flags.{neither}
@@ -190,8 +189,7 @@ module _ (u : UsedRecord) (s : Step) where
 
     -- with it
     pub measured-run : s.op ≡ Measure → (nb cs : List ℕ) (used' : ℕ) (r : Answer)
-        → Call (used_measure_call u (pauli_asked (s.value / 2 + 1) s.a (s.value % 2)) (lent_outcome 0 0)
-        (used_record u.held.n nb cs used') (lent_outcome r.outcome r.determined))
+        → Call (used_measure_call u (s.value / 2 + 1) s.a (s.value % 2) 0 0 nb cs used' r.outcome r.determined)
         r.refusal
         → StepRun u s r nb cs used'
     measured-run g nb cs used' r C =
@@ -202,8 +200,7 @@ module _ (u : UsedRecord) (s : Step) where
 
     -- with a bit by lot
     pub observed-run : s.op ≡ Observe → (nb cs : List ℕ) (used' : ℕ) (r : Answer)
-        → Call (observe_call u (pauli_asked (s.value / 2 + 1) s.a (s.value % 2)) (lent_outcome 0 0)
-        (used_record u.held.n nb cs used') (lent_outcome r.outcome r.determined))
+        → Call (observe_call u (s.value / 2 + 1) s.a (s.value % 2) 0 0 nb cs used' r.outcome r.determined)
         r.refusal
         → StepRun u s r nb cs used'
     observed-run g nb cs used' r C =
@@ -241,8 +238,8 @@ module _ (u : UsedRecord) (s : Step) where
             go : Dec (r.refusal ≡ 0) → Left (eqb r.refusal 0)
             go (yes z) =
                 let M = observe-as-measured u pauli s.a bit
-                (subst (Call (observe_call u (pauli_asked pauli s.a bit) (lent_outcome 0 0)
-                (used_record u.held.n nb cs used') (lent_outcome r.outcome r.determined))) z C) in
+                (subst (Call (observe_call u pauli s.a bit 0 0 nb cs used'
+                r.outcome r.determined)) z C) in
                 let c = left-by-call u measured (record { number = M.number; held = M.held.1.1.1 }) in
                 subst Left (sym (eq-eqb r.refusal 0 z))
                 (c.0, c.1, marked-by-call u pauli s.a (answered u pauli s.a bit) M)

@@ -1,5 +1,5 @@
--- A call of `turn` by a walk that has its three slices back, and the table: what the call asks is made of them, and
--- what it promises makes them again, at the lists after the step.
+-- A call of `turn` by a walk that has its three slices back: what the call asks is made of them, and what it promises
+-- makes them again, at the lists after the step.
 -- Assumes `Logic`.
 use mathlib.Core.List.{List, [], ◌∷◌}
 use mathlib.Core.Path.{◌≡◌, ap, refl}
@@ -7,15 +7,13 @@ use Prim.Native.Nat.{◌+◌, ◌<◌, ◌^◌, ℕ}
 use lib.ListN.{length}
 use seplogic.Ra.TreeShare.{full_share}
 use seplogic.Ra.Ura.{Ura}
-use base.Fml.{Fml, GName, Lft, Share, flft, fsep, ftrue}
+use base.Fml.{Fml, GName, fsep, ftrue}
 use base.Logic.{SProp, ent, ex, guard, id⊢, sep}
 use contract.Monad.{Fun, fact}
-use denote.Array.{Array}
 use denote.Builtin.{u64, u8, usize}
 use denote.Laws.{Is, shows}
 use denote.Plain.{uint_Makes}
-use denote.RattleType.{RattleType}
-use denote.Ref.{Bor, ShrRef, shr_vals, shr_copy}
+use denote.Ref.{Bor}
 use denote.Slice.{Room}
 use denote.Steps.{facts, heard, nothing, only, owned}
 use denote.Struct.Laws as LL
@@ -64,7 +62,6 @@ use types.Kit.{
 use Rattle.jobs.specs.contracts.Step as S
 use Rattle.jobs.proofs.Step.TheLaws as S'
 use Rattle.jobs.specs.declared.Step.{Step}
-use Rattle.clifford_impl.specs.internal.Composing.{Composes}
 use Rattle.operations.specs.Used.{UsedRecord, used_record}
 use Rattle.call_run.specs.internal.LentRuns.{ReadyAt, WaitingRun}
 use Rattle.call_run.proofs.Lending.{Holds, Kept, Lent, Out, Token, comes-in, goes-out, ref, val}
@@ -88,21 +85,6 @@ mach s = LL.tuple_val S.the_type S'.the_laws ((S.the_type).to s)
 abbrev pub Names : Type 0
 Names = (ℕ × GName) × ((ℕ × GName) × (ℕ × GName))
 
--- the table of compositions, lent: its lifetime, the share of the token, and the reference
-abbrev pub Codes : RattleType
-Codes = Array u8 576
-
-pub record Table : Type 0 where
-  pub κ : Lft
-  pub q : Share
-  pub at : Bor (List ℕ)
-
-abbrev pub Tabled : Table → Fml
-Tabled t = (ShrRef (named 3) t.κ Codes).own_val t.at (shr_vals t.at)
-
-abbrev pub TableLasting : Table → Fml
-TableLasting t = flft t.κ t.q
-
 -- what no turn changes
 pub record Turning : Type 0 where
   pub n : ℕ
@@ -110,7 +92,6 @@ pub record Turning : Type 0 where
   pub neighbours : Lent u64
   pub codes : Lent u8
   pub answers : Lent u8
-  pub table : Table
 
 module _ {M : Type 1} {𝓤 : Ura M} (𝓛 : Logic 𝓤) (mem : Memory → SProp 𝓤) (run : Routine → Fun 𝓤) where
   abbrev pub Turn : Contract 𝓤
@@ -132,17 +113,14 @@ module _ (T : Turning) where
   abbrev L₃ : Lent u8
   L₃ = T.answers
 
-  abbrev t : Table
-  t = T.table
-
-  -- the three slices and the table, each with its token
+  -- the three slices, each with its token
   abbrev pub Buffers : Now → Fml
   Buffers x = fsep (Holds u64 L₀ (named 0) x.neighbours) (fsep (Holds u8 L₁ (named 1) x.codes)
-      (fsep (Holds u8 L₃ (named 3) x.answers) (fsep (Tabled t) (TableLasting t))))
+      (Holds u8 L₃ (named 3) x.answers))
 
   abbrev pub Kepts : Names → Now → Fml
   Kepts g x = fsep (Kept u64 L₀ g.0 x.neighbours) (fsep (Kept u8 L₁ g.1.0 x.codes)
-      (fsep (Kept u8 L₃ g.1.1 x.answers) (Tabled t)))
+      (Kept u8 L₃ g.1.1 x.answers))
 
   -- they are as long as at first, and the word fits
   pub record Fitting (x : Now) : Type 0 where
@@ -166,8 +144,7 @@ module _ (T : Turning) where
 
     module _ (x : Now) (s : Step) (i : ℕ) where
       abbrev Args : Type 0
-      Args = ℕ × (Bor (List ℕ) × (Bor (List ℕ) × (ℕ × (Step ×
-          (ℕ × (ℕ × (Bor (List ℕ) × (Bor (List ℕ) × Unit {0}))))))))
+      Args = ℕ × (Bor (List ℕ) × (Bor (List ℕ) × (ℕ × (Step × (ℕ × (ℕ × (Bor (List ℕ) × Unit {0})))))))
 
       abbrev args : Names → Args
       args g = (
@@ -176,12 +153,12 @@ module _ (T : Turning) where
           ref u64 L₀ g.0.1 x.neighbours,
           (
             ref u8 L₁ g.1.0.1 x.codes,
-            (x.used, (s, (place, (i, (ref u8 L₃ g.1.1.1 x.answers, (t.at, tt)))))),
+            (x.used, (s, (place, (i, (ref u8 L₃ g.1.1.1 x.answers, tt))))),
           ),
         ),
       )
 
-      abbrev at : (g : Names) → Vals turn.signature (g.0.0 ∷ [], (g.1.0.0 ∷ [], (g.1.1.0 ∷ [], (t.κ, tt))))
+      abbrev at : (g : Names) → Vals turn.signature (g.0.0 ∷ [], (g.1.0.0 ∷ [], (g.1.1.0 ∷ [], tt)))
       at g = (
         vint w64 n ∷ [],
         (
@@ -192,7 +169,7 @@ module _ (T : Turning) where
               vint w64 x.used ∷ [],
               (
                 mach s ∷ [],
-                (vint w64 place ∷ [], (vint w64 i ∷ [], (val u8 L₃ ∷ [], (shr_vals t.at, tt)))),
+                (vint w64 place ∷ [], (vint w64 i ∷ [], (val u8 L₃ ∷ [], tt))),
               ),
             ),
           ),
@@ -203,8 +180,8 @@ module _ (T : Turning) where
       abbrev pub to : Names → (Turn 𝓛 mem run).Ghost
       to g = (
         (
-          (g.0.0 ∷ [], (g.1.0.0 ∷ [], (g.1.1.0 ∷ [], (t.κ, tt)))),
-          (full_share, (full_share, (full_share, (t.q, tt)))),
+          (g.0.0 ∷ [], (g.1.0.0 ∷ [], (g.1.1.0 ∷ [], tt))),
+          (full_share, (full_share, (full_share, tt))),
           tt,
           args g,
           at g,
@@ -214,72 +191,59 @@ module _ (T : Turning) where
 
       module _ (gn : n < 2 ^ 64) (gp : place < 2 ^ 64) (gi : i < 2 ^ 64) (gs : Is S.the_row s (mach s ∷ []))
           (F : Fitting x)
-          (asks : (place + i < length x.answers) × ReadyAt (place + i) x.answers (left n x) × Composes
-          t.at.now)
-        where
-          asked : (g : Names) → ent 𝓤 (sep 𝓤 (sem 𝓛 (Token u64 L₀ g.0))
-              (sep 𝓤 (sem 𝓛 (Token u8 L₁ g.1.0)) (sep 𝓤 (sem 𝓛 (Token u8 L₃ g.1.1))
-              (sep 𝓤 (sem 𝓛 (TableLasting t)) (sep 𝓤 (sem 𝓛 (Out u64 L₀ (named 0) g.0 x.neighbours))
-              (sep 𝓤 (sem 𝓛 (Out u8 L₁ (named 1) g.1.0 x.codes))
-              (sep 𝓤 (sem 𝓛 (Out u8 L₃ (named 2) g.1.1 x.answers)) (sem 𝓛 (Tabled t)))))))))
-              ((Turn 𝓛 mem run).pre (to g))
-          asked g =
-              qed 𝓛 (‵ (Token u64 L₀ g.0) ∷ ‵ (Token u8 L₁ g.1.0) ∷ ‵ (Token u8 L₃ g.1.1) ∷ ‵
-              (TableLasting t)
-              ∷ ‵ (Out u64 L₀ (named 0) g.0 x.neighbours) ∷ ‵ (Out u8 L₁ (named 1) g.1.0 x.codes) ∷ ‵
-              (Out u8 L₃ (named 2) g.1.1 x.answers) ∷ ‵ (Tabled t) ∷ []) ∵
-              says ! asks $ nothing ! $ move ! (4 ∷ 0 ∷ []) $ join ! $ move ! (3 ∷ 0 ∷ []) $ join ! $ move !
-              (2 ∷ 0 ∷ [])
-              $ join ! $ move ! (1 ∷ 0 ∷ []) $ join ! $ frame ! $
-              nothing ! $ move ! (4 ∷ 0 ∷ []) $ fjoin ! $ move ! (3 ∷ 0 ∷ []) $ fjoin ! $ owned ! usize (Is usize)
-              (uint_Makes 𝓛 w64) i _ (refl, gi)
-              $ fjoin ! $
-              owned ! usize (Is usize) (uint_Makes 𝓛 w64) place _ (refl, gp) $ fjoin ! $
-              owned ! S.the_row (Is S.the_row) (LL.makes S.the_type S'.the_plain 𝓛) s _ gs $ fjoin ! $
-              owned ! u64 (Is u64) (uint_Makes 𝓛 w64) x.used _ (refl, F.fits) $ fjoin ! $ move !
-              (2 ∷ 0 ∷ []) $
-              fjoin ! $
-              move ! (1 ∷ 0 ∷ []) $ fjoin ! $ owned ! u64 (Is u64) (uint_Makes 𝓛 w64) n _ (refl, gn) $ fjoin ! $
-              done !
+          (asks : (place + i < length x.answers) × ReadyAt (place + i) x.answers (left n x)) where
+        asked : (g : Names) → ent 𝓤 (sep 𝓤 (sem 𝓛 (Token u64 L₀ g.0))
+            (sep 𝓤 (sem 𝓛 (Token u8 L₁ g.1.0)) (sep 𝓤 (sem 𝓛 (Token u8 L₃ g.1.1))
+            (sep 𝓤 (sem 𝓛 (Out u64 L₀ (named 0) g.0 x.neighbours))
+            (sep 𝓤 (sem 𝓛 (Out u8 L₁ (named 1) g.1.0 x.codes))
+            (sem 𝓛 (Out u8 L₃ (named 2) g.1.1 x.answers))))))) ((Turn 𝓛 mem run).pre (to g))
+        asked g =
+            qed 𝓛 (‵ (Token u64 L₀ g.0) ∷ ‵ (Token u8 L₁ g.1.0) ∷ ‵ (Token u8 L₃ g.1.1) ∷ ‵
+            (Out u64 L₀ (named 0) g.0 x.neighbours)
+            ∷ ‵ (Out u8 L₁ (named 1) g.1.0 x.codes) ∷ ‵ (Out u8 L₃ (named 2) g.1.1 x.answers) ∷ []) ∵
+            says ! asks $ nothing ! $ move ! (3 ∷ 0 ∷ []) $ join ! $ move ! (2 ∷ 0 ∷ []) $ join ! $ move ! (1 ∷ 0 ∷ [])
+            $ join ! $ frame ! $
+            nothing ! $ move ! (3 ∷ 0 ∷ []) $ fjoin ! $ owned ! usize (Is usize) (uint_Makes 𝓛 w64) i _ (refl, gi)
+            $ fjoin ! $
+            owned ! usize (Is usize) (uint_Makes 𝓛 w64) place _ (refl, gp) $ fjoin ! $
+            owned ! S.the_row (Is S.the_row) (LL.makes S.the_type S'.the_plain 𝓛) s _ gs $ fjoin ! $
+            owned ! u64 (Is u64) (uint_Makes 𝓛 w64) x.used _ (refl, F.fits) $ fjoin ! $ move ! (2 ∷ 0 ∷ []) $
+            fjoin ! $
+            move ! (1 ∷ 0 ∷ []) $ fjoin ! $ owned ! u64 (Is u64) (uint_Makes 𝓛 w64) n _ (refl, gn) $ fjoin ! $
+            done !
 
-          pub called : ent 𝓤 (sem 𝓛 (Buffers x)) (H.⇛ (ex 𝓤
-              (λ (g : Names). sep 𝓤 ((Turn 𝓛 mem run).pre (to g)) (sem 𝓛 (Kepts g x)))))
-          called =
-              qed 𝓛 (‵ (Buffers x) ∷ []) ∵ updating ! $ fsplit ! $
-              use1 𝓛 (later (some (λ (g : ℕ × GName). ‵ (Token u64 L₀ g) ⊛ ‵ (Out u64 L₀ (named 0) g x.neighbours)
-              ⊛ ‵
-              (Kept u64 L₀ g x.neighbours))))
-              (goes-out u64 L₀ 𝓛 (named 0) (named 0) x.neighbours F.neighbours-long) $ await ! tt $ pick !
-              (λ g₀. split3 ! $ move ! (3 ∷ []) $ fsplit ! $
-              use1 𝓛 (later (some (λ (g : ℕ × GName). ‵ (Token u8 L₁ g) ⊛ ‵ (Out u8 L₁ (named 1) g x.codes) ⊛ ‵
-              (Kept u8 L₁ g x.codes))))
-              (goes-out u8 L₁ 𝓛 (named 1) (named 1) x.codes F.codes-long) $ await ! tt $ pick !
-              (λ g₁. split3 ! $ move ! (3 ∷ []) $ fsplit ! $
-              use1 𝓛 (later (some (λ (g : ℕ × GName). ‵ (Token u8 L₃ g) ⊛ ‵ (Out u8 L₃ (named 2) g x.answers) ⊛ ‵
-              (Kept u8 L₃ g x.answers))))
-              (goes-out u8 L₃ 𝓛 (named 3) (named 2) x.answers F.answers-long) $ await ! tt $ pick !
-              (λ g₃. split3 ! $ move ! (3 ∷ []) $ fsplit ! $
-              use1 𝓛 (‵ (Tabled t) ⊛ ‵ (Tabled t)) ((shr_copy 𝓛 (named 3) t.κ Codes).twice t.at
-              (shr_vals t.at)) $ split ! $
-              -- [the table, twice, and its token; token, slice and what is kept: of the answers, of the codes, of the
-              -- neighbours]
-              move ! (5 ∷ 1 ∷ []) $ fjoin ! $ move ! (7 ∷ 0 ∷ []) $ fjoin ! $ move ! (9 ∷ 0 ∷ []) $ fjoin ! $ move !
-              (7 ∷ 5 ∷ 3 ∷ 2 ∷ 8 ∷ 6 ∷ 4 ∷ 1 ∷ 0 ∷ []) $ group ! 8 $
-              use1 𝓛 (raw ((Turn 𝓛 mem run).pre (to (g₀, (g₁, g₃))))) (asked (g₀, (g₁, g₃))) $ at_once ! $
-              show ! (λ (g : Names). sep 𝓤 ((Turn 𝓛 mem run).pre (to g)) (sem 𝓛 (Kepts g x))) (g₀, (g₁, g₃)) $
-              done
-              !)))
+        pub called : ent 𝓤 (sem 𝓛 (Buffers x)) (H.⇛ (ex 𝓤
+            (λ (g : Names). sep 𝓤 ((Turn 𝓛 mem run).pre (to g)) (sem 𝓛 (Kepts g x)))))
+        called =
+            qed 𝓛 (‵ (Buffers x) ∷ []) ∵ updating ! $ fsplit ! $
+            use1 𝓛 (later (some (λ (g : ℕ × GName). ‵ (Token u64 L₀ g) ⊛ ‵ (Out u64 L₀ (named 0) g x.neighbours) ⊛ ‵
+            (Kept u64 L₀ g x.neighbours))))
+            (goes-out u64 L₀ 𝓛 (named 0) (named 0) x.neighbours F.neighbours-long) $ await ! tt $ pick !
+            (λ g₀. split3 ! $ move ! (3 ∷ []) $ fsplit ! $
+            use1 𝓛 (later (some (λ (g : ℕ × GName). ‵ (Token u8 L₁ g) ⊛ ‵ (Out u8 L₁ (named 1) g x.codes) ⊛ ‵
+            (Kept u8 L₁ g x.codes))))
+            (goes-out u8 L₁ 𝓛 (named 1) (named 1) x.codes F.codes-long) $ await ! tt $ pick !
+            (λ g₁. split3 ! $ move ! (3 ∷ []) $
+            use1 𝓛 (later (some (λ (g : ℕ × GName). ‵ (Token u8 L₃ g) ⊛ ‵ (Out u8 L₃ (named 2) g x.answers) ⊛ ‵
+            (Kept u8 L₃ g x.answers))))
+            (goes-out u8 L₃ 𝓛 (named 3) (named 2) x.answers F.answers-long) $ await ! tt $ pick !
+            (λ g₃. split3 ! $
+            -- [token, slice and what is kept: of the answers, of the codes, of the neighbours]
+            move ! (5 ∷ 2 ∷ []) $ fjoin ! $ move ! (7 ∷ 0 ∷ []) $ fjoin ! $ move ! (5 ∷ 3 ∷ 1 ∷ 6 ∷ 4 ∷ 2 ∷ 0 ∷ []) $
+            group ! 6 $
+            use1 𝓛 (raw ((Turn 𝓛 mem run).pre (to (g₀, (g₁, g₃))))) (asked (g₀, (g₁, g₃))) $ at_once ! $
+            show ! (λ (g : Names). sep 𝓤 ((Turn 𝓛 mem run).pre (to g)) (sem 𝓛 (Kepts g x))) (g₀, (g₁, g₃)) $ done
+            !)))
 
       abbrev Ends : Type 0
-      Ends = Unit {0}
-          × (List ℕ × (List ℕ × (Unit {0} × (Unit {0} × (Unit {0} × (Unit {0} × (List ℕ × (Unit {0} × Unit {0}))))))))
+      Ends = Unit {0} × (List ℕ × (List ℕ × (Unit {0} × (Unit {0} × (Unit {0} × (Unit {0} × (List ℕ × Unit {0})))))))
 
       abbrev Last : Names → Ends → Fml
-      Last g ws = lasts turn.ended (g.0.0 ∷ [], (g.1.0.0 ∷ [], (g.1.1.0 ∷ [], (t.κ, tt)))) (args g) ws
+      Last g ws = lasts turn.ended (g.0.0 ∷ [], (g.1.0.0 ∷ [], (g.1.1.0 ∷ [], tt))) (args g) ws
 
       abbrev Said : Names → ℕ → SProp 𝓤
       Said g r = ensured 𝓛 turn.ended (turn.clauses 𝓛 mem run)
-          (g.0.0 ∷ [], (g.1.0.0 ∷ [], (g.1.1.0 ∷ [], (t.κ, tt)))) (args g) tt r
+          (g.0.0 ∷ [], (g.1.0.0 ∷ [], (g.1.1.0 ∷ [], tt))) (args g) tt r
 
       abbrev Ran : Ends → ℕ → Type 0
       Ran ws r = WaitingRun (left n x) (s ∷ []) (place + i) x.answers ws.1.0 ws.1.1.0 r
@@ -295,8 +259,7 @@ module _ (T : Turning) where
       returned F r₀ r₁ r₃ g v =
           qed 𝓛 (raw ((Turn 𝓛 mem run).post (to g) v) ∷ ‵ (Kepts g x) ∷ []) ∵ updating ! $
           use1 𝓛 (later (some (λ (r : ℕ). ((‵ (Token u64 L₀ g.0) ⊛
-          (‵ (Token u8 L₁ g.1.0) ⊛ (‵ (Token u8 L₃ g.1.1) ⊛ (‵ (TableLasting t) ⊛ ‵ ftrue)))) ⊛ ‵
-          (u64.own_val r (v ∷ []))) ⊛ raw
+          (‵ (Token u8 L₁ g.1.0) ⊛ (‵ (Token u8 L₃ g.1.1) ⊛ ‵ ftrue))) ⊛ ‵ (u64.own_val r (v ∷ []))) ⊛ raw
           (Said g r))))
           (id⊢ 𝓤 _) $ await ! tt $ pick ! (λ r. split ! $ move ! (1 ∷ []) $
           use1 𝓛 (some (λ (ws : Ends). ‵ (Last g ws) ⊛ raw (fact 𝓤 (Ran ws r)))) (id⊢ 𝓤 _) $ pick !
@@ -308,21 +271,19 @@ module _ (T : Turning) where
           move ! (1 ∷ []) $ feq_l ! (λ e₃. move ! (4 ∷ []) $ split ! $ move ! (1 ∷ []) $ facts ! u64 (Is u64)
           (shows 𝓛 u64) r (v ∷ []) (λ is.
           -- [the tokens; the last answers; -; the last codes; the last neighbours; what was kept]
-          split ! $ move ! (1 ∷ []) $ split ! $ move ! (1 ∷ []) $ split ! $ move ! (1 ∷ []) $ split ! $ move ! (9 ∷ [])
-          $ fsplit ! $ move ! (1 ∷ []) $ fsplit ! $ move ! (1 ∷ []) $ fsplit ! $ move ! (8 ∷ 3 ∷ 12 ∷ []) $
+          split ! $ move ! (1 ∷ []) $ split ! $ move ! (1 ∷ []) $ split ! $ move ! (8 ∷ []) $ fsplit ! $ move ! (1 ∷ [])
+          $ fsplit ! $ move ! (6 ∷ 2 ∷ 10 ∷ []) $
           use3 𝓛 (later (‵ (Holds u64 L₀ (named 0) ws.1.0)))
           (comes-in u64 L₀ 𝓛 (named 0) (named 0) x.neighbours F.neighbours-long r₀ g.0 ws.1.0 e₀)
           $
-          await ! tt $ move ! (7 ∷ 3 ∷ 10 ∷ []) $
+          await ! tt $ move ! (5 ∷ 1 ∷ 8 ∷ []) $
           use3 𝓛 (later (‵ (Holds u8 L₁ (named 1) ws.1.1.0)))
           (comes-in u8 L₁ 𝓛 (named 1) (named 1) x.codes F.codes-long r₁ g.1.0 ws.1.1.0 e₁) $
-          await ! tt $ move ! (6 ∷ 2 ∷ 7 ∷ []) $
+          await ! tt $ move ! (3 ∷ 2 ∷ 5 ∷ []) $
           use3 𝓛 (later (‵ (Holds u8 L₃ (named 3) ws.1.1.1.1.1.1.1.0)))
           (comes-in u8 L₃ 𝓛 (named 3) (named 2) x.answers F.answers-long r₃ g.1.1
           ws.1.1.1.1.1.1.1.0 e₃) $ await ! tt $
-          keep ! (3 ∷ 4 ∷ 0 ∷ 1 ∷ 2 ∷ []) $ fjoin ! $ move ! (1 ∷ 0 ∷ []) $ fjoin ! $ move ! (1 ∷ 0 ∷ []) $ fjoin ! $
-          move
-          ! (1 ∷ 0 ∷ []) $ fjoin ! $ at_once ! $
+          keep ! (1 ∷ 0 ∷ 2 ∷ []) $ fjoin ! $ move ! (1 ∷ 0 ∷ []) $ fjoin ! $ at_once ! $
           show ! (λ (y : Now). guard 𝓤 (Came x s i v y) (sem 𝓛 (Buffers y))) (after ws r) $
           check ! (record {
             is = ap only is.0;

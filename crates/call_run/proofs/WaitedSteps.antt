@@ -7,7 +7,7 @@ use native.Mathlib.Decide.{ℕ_discrete}
 use lib.Dec.{eqb}
 use borrow.Author.Tests.{eq-eqb, ne_eqb}
 use Rattle.buffers.specs.Refusals.{first_fitting}
-use Rattle.operations.proofs.KnownRecords.{six-alone}
+use Rattle.call_gates.proofs.KnownRecords.{six-alone}
 use Rattle.call_run.proofs.WaitingLaws.{meant-again}
 use Rattle.call_run.specs.internal.Waiting.{
   MeasuredStep,
@@ -66,8 +66,7 @@ module _ (waiting : Bool) (u : UsedRecord) (W : Standing waiting u) where
 
           left : held_in u words' codes' ≡ (used_step v o).after.held
           left = λ i. record {
-            n = many (eqb (used_step v o).number 0) (record { held = leaves v.held o; used = used_after v o })
-                refl i;
+            n = many (eqb (used_step v o).number 0) (record { held = leaves v.held o; used = used_after v o }) refl i;
             neighbours = (left-by-call v o C).0 i;
             codes = (left-by-call v o C).1 i;
           }
@@ -89,8 +88,7 @@ module _ (waiting : Bool) (u : UsedRecord) (W : Standing waiting u) where
                 ap₂ (λ a b. (meant_record waiting (held_in u a b)).neighbours) w.0 w.1.0 ∙ (meant-again waiting u
                     W).0,
                 (
-                  ap₂ (λ a b. (meant_record waiting (held_in u a b)).codes) w.0 w.1.0
-                      ∙ (meant-again waiting u W).1,
+                  ap₂ (λ a b. (meant_record waiting (held_in u a b)).codes) w.0 w.1.0 ∙ (meant-again waiting u W).1,
                   tt,
                 ),
               ))
@@ -186,8 +184,8 @@ module _ (waiting : Bool) (u : UsedRecord) (W : Standing waiting u) where
                   ap₂ (λ a b. (meant_record waiting (held_in u a b)).neighbours) w.1.0 w.1.1.0 ∙ (meant-again
                       waiting u W).0,
                   (
-                    ap₂ (λ a b. (meant_record waiting (held_in u a b)).codes) w.1.0 w.1.1.0
-                        ∙ (meant-again waiting u W).1,
+                    ap₂ (λ a b. (meant_record waiting (held_in u a b)).codes) w.1.0 w.1.1.0 ∙ (meant-again waiting
+                        u W).1,
                     tt,
                   ),
                 ),

@@ -9,14 +9,13 @@ use lib.Bits.{bit_or}
 use lib.ListN.{length}
 use borrow.Author.Tests.{ne_eqb}
 use Rattle.buffers.specs.Refusals.{first_fitting}
-use Rattle.operations.proofs.KnownRecords.{six-alone}
-use Rattle.operations.proofs.InPlaceLines.{gate-ready, measure-ready}
-use Rattle.operations.proofs.MeasureLines.{arguments-before, measure-passes, then-14, then-none}
-use Rattle.operations.proofs.UsedInPlace.{named-as, record-refused, then-0, then-16, then-8}
+use Rattle.call_gates.proofs.KnownRecords.{six-alone}
+use Rattle.calls.proofs.InPlaceLines.{gate-ready, measure-ready}
+use Rattle.calls.proofs.MeasureLines.{arguments-before, measure-passes, then-14, then-none}
+use Rattle.calls.proofs.UsedInPlace.{named-as, record-refused, then-0, then-16, then-8}
 use Rattle.calls.specs.InPlace.{used_call, used_measure_call}
 use Rattle.calls.specs.Sources.{observe_call, renew_call}
-use Rattle.calls.specs.Asked.{lent_outcome, pauli_asked}
-use Rattle.operations.specs.internal.Knowing.{used_in_place}
+use Rattle.calls.specs.internal.InPlace.{used_in_place}
 use Rattle.clifford.specs.Clifford.{clifford_of}
 use Rattle.buffers.proofs.Calling.{done, refused}
 use Rattle.buffers.specs.Calls.{Call}
@@ -64,7 +63,7 @@ use Rattle.operations.proofs.AcceptedSteps.{
 }
 use Rattle.operations.proofs.MeasuringMarks.{marked-word}
 use Rattle.operations.proofs.UsedPassing.{lines-pass, used-passes, used_step}
-use Rattle.operations.specs.Used.{UsedRecord, UsedUnrefused, used_arguments_of, used_lines_of, used_record}
+use Rattle.operations.specs.Used.{used_arguments_of, used_lines_of, UsedRecord, UsedUnrefused}
 use Rattle.words.proofs.Flags.{same-by-both}
 use Rattle.source.proofs.Observed.{answered, observed-passes}
 use Rattle.stabilizer.specs.Membership.{member}
@@ -139,9 +138,8 @@ module _ (waiting : Bool) (u : UsedRecord) (W : Standing waiting u) where
   refused-measurement pauli q b {k} e h =
       record {
         sound = W.sound;
-        call = subst (λ t. Call (used_measure_call (meant waiting u) (pauli_asked pauli q b) (lent_outcome 0 0)
-            (used_record u.held.n (meant_record t l).neighbours (meant_record t l).codes u.used)
-            (lent_outcome 0 0)) k)
+        call = subst (λ t. Call (used_measure_call (meant waiting u) pauli q b 0 0 (meant_record t l).neighbours
+            (meant_record t l).codes u.used 0 0) k)
             (sym (ap (λ t. cond t true waiting) (ne_eqb k 0 h)))
             (refused _ e h (refl, (refl, (refl, (refl, (refl, tt))))));
       }
@@ -359,9 +357,8 @@ module _ (waiting : Bool) (u : UsedRecord) (W : Standing waiting u) where
       refused-observation h =
           record {
             sound = W.sound;
-            call = subst (λ t. Call (observe_call (meant waiting u) (pauli_asked pauli q b) (lent_outcome 0 0)
-                (used_record u.held.n (meant_record t l).neighbours (meant_record t l).codes u.used)
-                (lent_outcome 0 0)) j)
+            call = subst (λ t. Call (observe_call (meant waiting u) pauli q b 0 0 (meant_record t l).neighbours
+                (meant_record t l).codes u.used 0 0) j)
                 (sym (ap (λ t. cond t true waiting) (ne_eqb j 0 h)))
                 (refused _ e h (refl, (refl, (refl, (refl, (refl, tt))))));
           }
@@ -387,8 +384,7 @@ module _ (waiting : Bool) (u : UsedRecord) (W : Standing waiting u) where
             go false m true = refl
             go false m false = refl
 
-        outcome-same : outcome n (held_rows l) (pauli_letter pauli) q (is_odd b) ≡ outcome n (held_rows v)
-            (pauli_letter pauli)
+        outcome-same : outcome n (held_rows l) (pauli_letter pauli) q (is_odd b) ≡ outcome n (held_rows v) (pauli_letter pauli)
             q (is_odd b)
         outcome-same = by_contradiction (held_rows l) ∙ ap (λ c. is_odd b ⊕ c)
             (sym (ap (λ m. contradicts m (rows_of m (held_record l)) (pauli_letter pauli) q (is_odd b))

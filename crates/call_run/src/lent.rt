@@ -1,8 +1,7 @@
 // Runs the steps of a lent slice on a lent record in place, and keeps what each answers as one number.
-ghost use Rattle.std.specs.Prelude.{cond, true, [], ◌∷◌, ◌≡◌, ◌+◌, ◌<◌, ◌≤◌, length, take};
-ghost use Rattle.clifford_impl.specs.internal.Composing.{Composes};
+ghost use Rattle.std.specs.Prelude.{cond, [], ◌∷◌, ◌≡◌, ◌+◌, ◌<◌, ◌≤◌, length, take};
 ghost use Rattle.call_run.specs.internal.Waiting.{meant};
-ghost use Rattle.call_run.specs.internal.StepRuns.{AcceptedGate, leaves_reduced, next_waiting};
+ghost use Rattle.call_run.specs.internal.StepRuns.{leaves_reduced, next_waiting};
 ghost use Rattle.call_run.specs.internal.LentRuns.{ReadyAt, SmallAnswer, WaitingRun};
 ghost use Rattle.call_run.specs.internal.LentRuns.{marked_before, packed};
 ghost use Rattle.operations.specs.Used.{used_record};
@@ -10,8 +9,6 @@ ghost use Rattle.operations.specs.Used.{used_record};
 use crate::steps::run_step;
 use crate::waiting::settle_waiting;
 use jobs::{Answer, Op, Step};
-use operations_gates::unsettled::gate_unsettled;
-use words::bit_at;
 
 // Whether the operation, if it is accepted, leaves a reduced record.
 fn leaves_reduced(op: Op) -> bool
@@ -65,22 +62,8 @@ fn marked_before(answers: &[u8], place: usize) -> bool
     128 <= answers[place - 1]
 }
 
-// Whether the step is a gate that no line refuses.
-fn accepted_gate(n: u64, used: u64, s: Step) -> bool
-    ensures { result ≡ true → AcceptedGate n used s }
-{
-    let op = s.op;
-    let a = s.a as u64;
-    let sixteen = bit_at(used, a);
-    if let Op::Gate = op {
-        return !(((s.b != 0) | (24 <= s.value)) | ((n <= a) | sixteen));
-    }
-    false
-}
-
-// One step: what it answers is kept at place at + k, and the used word after it is the result. What is kept at the
-// place before it tells whether the record waits to be reduced; an accepted gate need not know, and comes first.
-// `table`: the compositions.
+// One step: what it answers is kept at place at + k, and the used word after it is the result. What is kept at the place
+// before it tells whether the record waits to be reduced.
 pub fn turn(
     n: u64,
     neighbours: &mut [u64],
@@ -90,22 +73,16 @@ pub fn turn(
     at: usize,
     k: usize,
     answers: &mut [u8],
-    table: &[u8; 576],
 ) -> u64
     requires { (at + k < length answers.old) × ReadyAt (at + k) answers.old (used_record n neighbours.old
-        codes.old used) × Composes table.now }
+        codes.old used) }
     ensures { WaitingRun (used_record n neighbours.old codes.old used) (s ∷ []) (at + k)
         answers.old neighbours.new codes.new result answers.new }
 {
-    let place = at + k;
-    if accepted_gate(n, used, s) {
-        gate_unsettled(neighbours, codes, s.a as usize, s.value as u8, table);
-        answers[place] = 128;
-        return used;
-    }
     let mut word = used;
+    let place = at + k;
     let waiting = marked_before(answers, place);
-    let r = run_step(n, neighbours, codes, &mut word, s, waiting, table);
+    let r = run_step(n, neighbours, codes, &mut word, s, waiting);
     let op = s.op;
     let marked = next_waiting(op, r.refusal, waiting);
     answers[place] = pack(marked, r);
@@ -121,10 +98,9 @@ pub fn run_lent(
     steps: &[Step],
     at: usize,
     answers: &mut [u8],
-    table: &[u8; 576],
 ) -> u64
     requires { (at + length steps.now ≤ length answers.old) × ReadyAt at answers.old
-        (used_record n neighbours.old codes.old used) × Composes table.now }
+        (used_record n neighbours.old codes.old used) }
     ensures { WaitingRun (used_record n neighbours.old codes.old used)
         steps.now at answers.old neighbours.new codes.new result
         answers.new }
@@ -132,7 +108,7 @@ pub fn run_lent(
     let mut word = used;
     let mut k = 0;
     while k < steps.len() {
-        word = turn(n, neighbours, codes, word, steps[k], at, k, answers, table);
+        word = turn(n, neighbours, codes, word, steps[k], at, k, answers);
         k += 1;
     }
     word
@@ -148,24 +124,14 @@ pub fn run_block(
     count: usize,
     at: usize,
     answers: &mut [u8],
-    table: &[u8; 576],
 ) -> u64
     requires { (count ≤ 64) × ((at + count ≤ length answers.old) × ReadyAt at answers.old
-        (used_record n neighbours.old codes.old used)) × Composes table.now }
+        (used_record n neighbours.old codes.old used)) }
     ensures { WaitingRun (used_record n neighbours.old codes.old used) (take count steps)
         at answers.old neighbours.new codes.new result
         answers.new }
 {
-    run_lent(
-        n,
-        neighbours,
-        codes,
-        used,
-        &steps[..count],
-        at,
-        answers,
-        table,
-    )
+    run_lent(n, neighbours, codes, used, &steps[..count], at, answers)
 }
 
 // The first steps of a job, lent whole.
@@ -178,24 +144,14 @@ pub fn run_steps(
     count: usize,
     at: usize,
     answers: &mut [u8],
-    table: &[u8; 576],
 ) -> u64
     requires { (count ≤ 4096) × ((at + count ≤ length answers.old) × ReadyAt at answers.old
-        (used_record n neighbours.old codes.old used)) × Composes table.now }
+        (used_record n neighbours.old codes.old used)) }
     ensures { WaitingRun (used_record n neighbours.old codes.old used) (take count steps)
         at answers.old neighbours.new codes.new result
         answers.new }
 {
-    run_lent(
-        n,
-        neighbours,
-        codes,
-        used,
-        &steps[..count],
-        at,
-        answers,
-        table,
-    )
+    run_lent(n, neighbours, codes, used, &steps[..count], at, answers)
 }
 
 // The record that is meant after the steps, in the buffers.

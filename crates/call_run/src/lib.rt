@@ -35,9 +35,8 @@ pub fn run(
           refusals = refusals.old;
           outcomes = outcomes.old;
           determined = determined.old;
-        })
-        (used_record n neighbours.new codes.new used.new) refusals.new
-        outcomes.new determined.new) result }
+        }) neighbours.new codes.new used.new
+        refusals.new outcomes.new determined.new) result }
 {
     let count = ops.len();
     let asked = one_other_than(count, a.len(), b.len(), value.len());

@@ -7,7 +7,6 @@ ghost use Rattle.call_run.specs.internal.LentRuns.{LentRun};
 ghost use Rattle.operations.specs.Used.{used_record, UsedUnrefused};
 
 use crate::lent::{run_block, settle_last};
-use clifford_impl::compositions::composition_table;
 use jobs::{Op, Step, op_of};
 
 // Step k of the slices.
@@ -65,8 +64,8 @@ fn block_length(left: usize) -> usize
     64
 }
 
-// The first steps of the slices, on a record in place that no line refuses. A step leaves such a record, and none looks
-// at its lines again. What step k answers is kept at place k, and the used word after the last is the result.
+// The first steps of the slices, on a record in place that no line refuses. A step leaves such a record, and none looks at
+// its lines again. What step k answers is kept at place k, and the used word after the last is the result.
 pub fn run_numbers(
     n: u64,
     neighbours: &mut [u64],
@@ -80,19 +79,17 @@ pub fn run_numbers(
     answers: &mut [u8],
 ) -> u64
     requires { (count ≤ length ops.now) × (count ≤ length answers.old)
-        × OneLength ops.now a.now b.now value.now × UsedUnrefused
-        (used_record n neighbours.old codes.old used) }
+        × OneLength ops.now a.now b.now value.now × UsedUnrefused (used_record n neighbours.old codes.old used) }
     ensures { LentRun (used_record n neighbours.old codes.old used)
         (take count (steps_in ops.now a.now b.now value.now)) 0
         answers.old neighbours.new codes.new result answers.new }
 {
-    let table = composition_table();
     let mut word = used;
     let mut k = 0;
     while k < count {
         let m = block_length(count - k);
         let block = block_at(ops, a, b, value, k, m);
-        word = run_block(n, neighbours, codes, word, block, m, k, answers, &table);
+        word = run_block(n, neighbours, codes, word, block, m, k, answers);
         k += m;
     }
     settle_last(n, neighbours, codes, word, count, answers);

@@ -2,7 +2,6 @@
 ghost use Rattle.std.specs.Prelude.{◌%◌, ◌+◌, ◌/◌, ◌<◌};
 ghost use Rattle.buffers.specs.Calls.{Call};
 ghost use Rattle.calls.specs.Sources.{renew_call};
-ghost use Rattle.clifford_impl.specs.internal.Composing.{Composes};
 ghost use Rattle.call_run.specs.internal.Waiting.{MeasuredStep, ObservedStep, Standing, meant};
 ghost use Rattle.call_run.specs.internal.StepRuns.{NoOutcome, Rewriting, WaitedCall, WaitedStep};
 ghost use Rattle.operations.specs.Used.{used_record};
@@ -92,15 +91,14 @@ fn rewrite(
     b: u64,
     value: u16,
     waiting: bool,
-    table: &[u8; 576],
 ) -> u8
-    requires rewriting { Rewriting op value × Composes table.now }
+    requires rewriting { Rewriting op value }
     requires standing { Standing waiting (used_record n neighbours.old codes.old used) }
     ensures { WaitedCall waiting (used_record n neighbours.old codes.old used) op a b
         value neighbours.new codes.new result }
 {
     match op {
-        Op::Gate => gate_waiting(n, neighbours, codes, used, a, value as u8, waiting, table),
+        Op::Gate => gate_waiting(n, neighbours, codes, used, a, value as u8, waiting),
         Op::Cz => cz_waiting(n, neighbours, codes, used, a, b, waiting),
         Op::Complement => complement_waiting(n, neighbours, codes, used, a, waiting),
         Op::Pivot => pivot_waiting(n, neighbours, codes, used, a, b, waiting),
@@ -110,8 +108,7 @@ fn rewrite(
     }
 }
 
-// One step on a record that no line refuses. `waiting`: it stands for the reduced record of its group; `table`: the
-// compositions.
+// One step on a record that no line refuses. `waiting`: it stands for the reduced record of its group.
 pub fn run_step(
     n: u64,
     neighbours: &mut [u64],
@@ -119,9 +116,8 @@ pub fn run_step(
     used: &mut u64,
     s: Step,
     waiting: bool,
-    table: &[u8; 576],
 ) -> Answer
-    requires { Standing waiting (used_record n neighbours.old codes.old used.old) × Composes table.now }
+    requires { Standing waiting (used_record n neighbours.old codes.old used.old) }
     ensures { WaitedStep waiting (used_record n neighbours.old codes.old
         used.old) s result neighbours.new codes.new used.new }
 {
@@ -146,7 +142,7 @@ pub fn run_step(
         return renew_value(n, neighbours, codes, used, a, value, waiting);
     }
     let refusal = rewrite(
-        n, neighbours, codes, word, op, a, s.b as u64, value, waiting, table,
+        n, neighbours, codes, word, op, a, s.b as u64, value, waiting,
     );
     Answer {
         refusal,

@@ -2,7 +2,6 @@
 ghost use Rattle.std.specs.Prelude.{cond, ◌≡◌};
 ghost use Rattle.buffers.specs.Refusals.{first_fitting};
 ghost use Rattle.calls.specs.InPlace.{used_call};
-ghost use Rattle.clifford_impl.specs.internal.Composing.{Composes};
 ghost use Rattle.calls.specs.Sources.{renew_call};
 ghost use Rattle.buffers.specs.Calls.{Call};
 ghost use Rattle.operations.specs.Steps.{complement_of, cz_on, gate_with, measurement_of, pivot_of};
@@ -31,8 +30,7 @@ fn argument_number(six: bool, eight: bool, sixteen: bool) -> u8
     if sixteen { 16 } else { 0 }
 }
 
-// A code applied after the code held at a qubit. `waiting`: the record stands for the reduced one of its group;
-// `table`: the compositions.
+// A code applied after the code held at a qubit. `waiting`: the record stands for the reduced one of its group.
 pub fn gate_waiting(
     n: u64,
     neighbours: &[u64],
@@ -41,9 +39,8 @@ pub fn gate_waiting(
     qubit: u64,
     code: u8,
     waiting: bool,
-    table: &[u8; 576],
 ) -> u8
-    requires { Standing waiting (used_record n neighbours.now codes.old used) × Composes table.now }
+    requires { Standing waiting (used_record n neighbours.now codes.old used) }
     ensures { Stepped waiting (used_record n neighbours.now codes.old used)
         (gate_with qubit code) neighbours.now codes.new result }
 {
@@ -52,7 +49,7 @@ pub fn gate_waiting(
     if early != 0 {
         return early;
     }
-    gate_unsettled(neighbours, codes, qubit as usize, code, table);
+    gate_unsettled(neighbours, codes, qubit as usize, code);
     0
 }
 
@@ -145,8 +142,8 @@ pub fn measure_waiting(
     }
 }
 
-// A Pauli measured at a qubit with a bit by lot: where the state determines the outcome the bit plays no part. The
-// qubit is marked as used; a refused observation answers 0 and 0.
+// A Pauli measured at a qubit with a bit by lot: where the state determines the outcome the bit plays no part. The qubit is
+// marked as used; a refused observation answers 0 and 0.
 pub fn observe_waiting(
     n: u64,
     neighbours: &mut [u64],
@@ -228,7 +225,7 @@ pub fn pivot_waiting(
         (pivot_of j k) neighbours.new codes.new) result }
 {
     settle_waiting(n, neighbours, codes, used, waiting);
-    pivot_known(n, neighbours, codes, used, j, k)
+    pivot_known(n, neighbours, codes, used, j, k, true)
 }
 
 // A new photon at a used qubit: first the record is reduced, where it waits.

@@ -1,18 +1,18 @@
 // The public calls of a source that goes on: a measurement with a bit by lot, and a new photon at a used place.
+ghost use Rattle.std.specs.Prelude.{not, ◌≡◌};
 ghost use Rattle.buffers.specs.Calls.{Call};
 ghost use Rattle.calls.specs.Sources.{observe_call, renew_call};
-ghost use Rattle.calls.specs.Asked.{lent_outcome, pauli_asked};
-ghost use Rattle.operations.specs.internal.Knowing.{Known};
-ghost use Rattle.operations.specs.Used.{used_record};
+ghost use Rattle.call_gates.specs.internal.Knowing.{Known};
+ghost use Rattle.operations.specs.Used.{used_code, used_record};
 
+use call_gates::known_refusal;
+use call_gates::measure::argument_refusal;
 use operations::{determined_number, outcome_number};
-use operations_checks::in_place::{argument_refusal, known_refusal};
-use operations_checks::no_photon;
 use operations_measurement::measure_record;
 use words::{bit_at, flip, single};
 
-// A Pauli measured at a qubit, with a bit by lot: the outcome is the bit only where the state does not determine it.
-// The reduced record, and the qubit marked as used. `known`: no line of the record alone holds.
+// A Pauli measured at a qubit, with a bit by lot: the outcome is the bit only where the state does not determine it. The
+// reduced record, and the qubit marked as used. `known`: no line of the record alone holds.
 pub fn observe_known(
     n: u64,
     neighbours: &mut [u64],
@@ -26,11 +26,10 @@ pub fn observe_known(
     known: bool,
 ) -> u8
     requires { Known known (used_record n neighbours.old codes.old used.old) }
-    ensures { Call (observe_call
-        (used_record n neighbours.old codes.old used.old)
-        (pauli_asked pauli qubit bit) (lent_outcome answer.old determined.old)
-        (used_record n neighbours.new codes.new used.new)
-        (lent_outcome answer.new determined.new)) result }
+    ensures { Call (observe_call (used_record n neighbours.old codes.old
+        used.old) pauli qubit bit answer.old determined.old
+        neighbours.new codes.new used.new answer.new
+        determined.new) result }
 {
     let word = *used;
     let early = argument_refusal(n, neighbours, codes, word, pauli, qubit, bit, known);
@@ -56,15 +55,21 @@ pub fn observe(
     answer: &mut u8,
     determined: &mut u8,
 ) -> u8
-    ensures { Call (observe_call
-        (used_record n neighbours.old codes.old used.old)
-        (pauli_asked pauli qubit bit) (lent_outcome answer.old determined.old)
-        (used_record n neighbours.new codes.new used.new)
-        (lent_outcome answer.new determined.new)) result }
+    ensures { Call (observe_call (used_record n neighbours.old codes.old
+        used.old) pauli qubit bit answer.old determined.old
+        neighbours.new codes.new used.new answer.new
+        determined.new) result }
 {
     observe_known(
         n, neighbours, codes, used, pauli, qubit, bit, answer, determined, false,
     )
+}
+
+// Whether a code is none of a photon's: 0, 2, 4, 6, 8 and 10.
+pub fn no_photon(code: u8) -> bool
+    ensures { result ≡ not (used_code code) }
+{
+    !((code < 12) & (code % 2 != 1))
 }
 
 // A new photon at a used qubit: its code, and the qubit's mark taken away.

@@ -21,7 +21,6 @@ use Rattle.words.proofs.Flags.{both_true, neither}
 use Rattle.words.proofs.SearchLaws.{some-true}
 use Rattle.words.proofs.Searching.{above-none, below-some}
 use Rattle.calls.specs.Stores.{forget_call, return_call}
-use Rattle.operations.specs.Used.{used_record}
 
 module _ (name : ℕ) (st : Store) (others : Bool) (k : ℕ) (e : k ≡ first_fitting (store_lines 8 st others)) where
   pub early-number : (k ≡ 0 → ⊥) → k ≡ first_fitting (named_lines 8 name st others)
@@ -57,13 +56,12 @@ module _ (name : ℕ) (st : Store) (others : Bool) (k : ℕ) (e : k ≡ first_fi
 -- ---- the calls
 module _ (name : ℕ) (st : Store) (n : ℕ) (nb cs : List ℕ) (used k : ℕ)
     (e : k ≡ first_fitting (store_lines 8 st (other_than 64 nb || other_than 64 cs))) where
-  pub return_refused : (k ≡ 0 → ⊥) → Call (return_call name st (used_record n nb cs used) (used_record n nb cs used)) k
+  pub return_refused : (k ≡ 0 → ⊥) → Call (return_call name st n nb cs used n nb cs used) k
   return_refused h = refused _ (early-number name st (other_than 64 nb || other_than 64 cs) k e h) h
       (refl, (refl, (refl, (refl, tt))))
 
   module _ (z : k ≡ 0) (place : ℕ) (p : place ≡ place_of 8 st.heads name) where
-    pub return-not-held : 8 ≤ place → Call (return_call name st (used_record n nb cs used)
-        (used_record n nb cs used)) 17
+    pub return-not-held : 8 ≤ place → Call (return_call name st n nb cs used n nb cs used) 17
     return-not-held l = refused _ (not_there name st (other_than 64 nb || other_than 64 cs) k e z place p l)
         (λ x. absurd (omega (arith, x))) (refl, (refl, (refl, (refl, tt))))
 
@@ -88,7 +86,7 @@ module _ (name : ℕ) (st : Store) (n : ℕ) (nb cs : List ℕ) (used k : ℕ)
 
       pub return-done : (nb' cs' : List ℕ) (used' : ℕ) → nb' ≡ written (part_at place count st.neighbours) nb
           → cs' ≡ written (part_at place count st.codes) cs → used' ≡ get_or st.heads (3 * place + 2) 0
-          → Call (return_call name st (used_record n nb cs used) (used_record count nb' cs' used')) 0
+          → Call (return_call name st n nb cs used count nb' cs' used') 0
       return-done nb' cs' used' en ec eu = done _
           (z ∙ named-passes name st (other_than 64 nb || other_than 64 cs) k e z place p l) z (
             c ∙ ap (count_at st.heads) p,

@@ -33,8 +33,7 @@ module _ (u : UsedRecord) (st : Store) where
   module _ (name k : ℕ) (e : k ≡ first_fitting (record_tests (λ m. of_record u m || holds_line m (store_lines 8 st false))))
     where
       pub save-refused : (k ≡ 0 → ⊥) → Call (save_call u name st st.heads st.neighbours st.codes) k
-      save-refused h = refused _
-          (stays (record_tests (λ m. of_record u m || holds_line m (store_lines 8 st false))) _ e h) h
+      save-refused h = refused _ (stays (record_tests (λ m. of_record u m || holds_line m (store_lines 8 st false))) _ e h) h
           (refl, (refl, (refl, tt)))
 
       module _ (z : k ≡ 0) where

@@ -88,9 +88,8 @@ pub fn return_to(
       heads = heads.entry.now;
       neighbours = held_neighbours.now;
       codes = held_codes.now;
-    })
-        (used_record n.old neighbours.old codes.old used.old)
-        (used_record n.new neighbours.new codes.new used.new)) result }
+    }) n.old neighbours.old codes.old used.old
+        n.new neighbours.new codes.new used.new) result }
 {
     let others = other_than(neighbours.len(), 64) | other_than(codes.len(), 64);
     let early = store_refusal(8, heads, held_neighbours, held_codes, others);

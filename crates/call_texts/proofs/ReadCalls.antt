@@ -36,8 +36,7 @@ held_by r =
     used_record r.count (take r.count r.neighbours) (take r.count r.codes) r.used
 
 module _ (t : List ℕ) (n : ℕ) (nb cs : List ℕ) (used : ℕ) (r : ReadRecord) (T : TextTold t r) where
-  pub read-unformed : r.form ≡ false → Call (read_record_call t (used_record n nb cs used)
-      (used_record n nb cs used)) 1
+  pub read-unformed : r.form ≡ false → Call (read_record_call t n nb cs used n nb cs used) 1
   read-unformed f =
       refused _ (first-is (here (ap not (sym T.form ∙ f)))) (λ e. absurd (omega (arith, e)))
       (refl, (refl, (refl, (refl, tt))))
@@ -70,7 +69,7 @@ module _ (t : List ℕ) (n : ℕ) (nb cs : List ℕ) (used : ℕ) (r : ReadRecor
       at-lines : k ≡ first_fitting (read_record_lines t nb cs)
       at-lines = first-is (later (ap not (sym T.form ∙ f)) (fits-at _ at-record))
 
-      pub read-refused : (k ≡ 0 → ⊥) → Call (read_record_call t (used_record n nb cs used) (used_record n nb cs used)) k
+      pub read-refused : (k ≡ 0 → ⊥) → Call (read_record_call t n nb cs used n nb cs used) k
       read-refused h = refused _ at-lines h (refl, (refl, (refl, (refl, tt))))
 
       module _ (z : k ≡ 0) where
@@ -105,7 +104,7 @@ module _ (t : List ℕ) (n : ℕ) (nb cs : List ℕ) (used : ℕ) (r : ReadRecor
 
         pub read_done : {nb' cs' : List ℕ} → nb' ≡ written (part_at 0 r.count r.neighbours) nb →
             cs' ≡ written (part_at 0 r.count r.codes) cs →
-            Call (read_record_call t (used_record n nb cs used) (used_record r.count nb' cs' r.used)) 0
+            Call (read_record_call t n nb cs used r.count nb' cs' r.used) 0
         read_done en ec =
             let same = same-record few in
             done _ at-lines z (

@@ -33,8 +33,8 @@ pub fn write_record(
     0
 }
 
-// The first of lines 2 to 7 that holds of the record in the first n of 64 places; 0 where none does. `others`: a buffer
-// of the call has a wrong length.
+// The first of lines 2 to 7 that holds of the record in the first n of 64 places; 0 where none does. `others`: a buffer of
+// the call has a wrong length.
 fn held_refusal(n: usize, neighbours: &[u64], codes: &[u8], used: u64, others: bool) -> u8
     requires { (length neighbours.now ≡ 64) × (length codes.now ≡ 64) }
     ensures { result ≡ first_fitting (used_lines (used_record n (take n neighbours.now)
@@ -56,8 +56,8 @@ pub fn read_record(
     used: &mut u64,
 ) -> u8
     ensures { Call (read_record_call text.now
-        (used_record n.old neighbours.old codes.old used.old)
-        (used_record n.new neighbours.new codes.new used.new)) result }
+        n.old neighbours.old codes.old used.old
+        n.new neighbours.new codes.new used.new) result }
 {
     let read = read_text(text);
     let form = read.form;

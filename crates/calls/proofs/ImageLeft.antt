@@ -10,11 +10,10 @@ use Rattle.image.specs.Image.{image_minus, image_record}
 use Rattle.image.specs.Rule.{image_list}
 use Rattle.record.specs.Lent.{LentRecord, held_record, neighbour_words}
 use Rattle.words.specs.Bits.{digit}
-use Rattle.calls.specs.Images.{image_call, lent_image}
+use Rattle.calls.specs.Images.{image_call}
 
 module _ (l : LentRecord) (image signs list : List ℕ) (count : ℕ) (image' signs' list' : List ℕ) (count' r : ℕ)
-    (C : Call (image_call l (lent_image image signs list count) (lent_image image' signs' list' count')) r)
-    (z : r ≡ 0) where
+    (C : Call (image_call l image signs list count image' signs' list' count') r) (z : r ≡ 0) where
   pub image-left : image' ≡ neighbour_words l.n (image_record l.n (held_record l))
   image-left = (written_all C z).0
 

@@ -21,10 +21,9 @@ use Rattle.record.specs.Records.{GraphRecord}
 use Rattle.operations.proofs.AcceptedSteps.{accepted-step}
 use Rattle.operations.proofs.MeasuringMarks.{marked-word}
 use Rattle.operations.proofs.UsedPassing.{used-passes, used_step}
-use Rattle.operations.specs.Used.{UsedRecord, used_after, used_lines_of, used_record, used_step}
+use Rattle.operations.specs.Used.{UsedRecord, used_after, used_lines_of, used_step}
 use Rattle.words.specs.Bits.{is_odd}
 use Rattle.calls.specs.InPlace.{in_place_call, measure_call, record_lent, used_call, used_measure_call}
-use Rattle.calls.specs.Asked.{lent_outcome, pauli_asked}
 
 module _ (u : UsedRecord) (o : Operation) {k : ℕ} (e : k ≡ first_fitting (used_lines_of u o)) (z : k ≡ 0) where
   pub as_before : first_fitting (lines_of u.held o) ≡ 0
@@ -54,10 +53,8 @@ without-used u o C = record { number = sym (used_step u o (sym C.number)); held 
 
 pub measured-without : (u : UsedRecord) (pauli q b : ℕ) {answer determined : ℕ} {nb' cs' : List ℕ}
     {used' answer' determined' : ℕ}
-    → Call (used_measure_call u (pauli_asked pauli q b) (lent_outcome answer determined)
-    (used_record u.held.n nb' cs' used') (lent_outcome answer' determined')) 0
-    → Call (measure_call u.held (pauli_asked pauli q b) (lent_outcome answer determined)
-    (lent_record u.held.n nb' cs') (lent_outcome answer' determined')) 0
+    → Call (used_measure_call u pauli q b answer determined nb' cs' used' answer' determined') 0
+    → Call (measure_call u.held pauli q b answer determined nb' cs' answer' determined') 0
 measured-without u pauli q b C =
     record { number = sym (used_step u (measurement_of pauli q b) (sym C.number)); held = C.held.1 }
 
@@ -84,8 +81,7 @@ left-by-call u o {r} {nb'} {cs'} C = go (eqb (first_fitting (used_lines_of u o))
 -- the used word after it is what the step leaves
 pub marked-by-call : (u : UsedRecord) (pauli q b : ℕ) {answer determined r : ℕ} {nb' cs' : List ℕ}
     {used' answer' determined' : ℕ}
-    → Call (used_measure_call u (pauli_asked pauli q b) (lent_outcome answer determined)
-    (used_record u.held.n nb' cs' used') (lent_outcome answer' determined')) r
+    → Call (used_measure_call u pauli q b answer determined nb' cs' used' answer' determined') r
     → used' ≡ (used_step u (measurement_of pauli q b)).after.used
 marked-by-call u pauli q b C =
     C.held.0 ∙ ap (λ k. cond (eqb k 0) (used_after u (measurement_of pauli q b)) u.used) C.number
@@ -100,8 +96,7 @@ pub measure-done : (u : UsedRecord) (pauli q b answer determined : ℕ) {k : ℕ
     → MeasuredInPlace u.held.neighbours u.held.codes pauli q (is_odd b) r nb' cs'
     → (used' answer' determined' : ℕ) → used' ≡ bit_or u.used (2 ^ q) → answer' ≡ outcome_number r
     → determined' ≡ determined_number r
-    → Call (used_measure_call u (pauli_asked pauli q b) (lent_outcome answer determined)
-    (used_record u.held.n nb' cs' used') (lent_outcome answer' determined')) 0
+    → Call (used_measure_call u pauli q b answer determined nb' cs' used' answer' determined') 0
 measure-done u pauli q b answer determined e z r nb' cs' M used' answer' determined' eu ea ed =
     done _ e z (
       eu ∙ sym (marked-word u pauli q b ((used-passes u (measurement_of pauli q b)).0 (sym e ∙ z))),

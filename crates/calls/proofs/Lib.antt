@@ -1,3 +1,6 @@
+pub mod InPlaceLines
+pub mod UsedInPlace
+pub mod MeasureLines
 pub mod InPlaceCalls
 pub mod PairLines
 pub mod PairCounts

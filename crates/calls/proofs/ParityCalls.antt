@@ -20,7 +20,6 @@ use Rattle.parity.specs.internal.InPlace.{RowInPlace}
 use Rattle.record.specs.Lent.{code_numbers, LentRecord, lent_record, neighbour_words}
 use Rattle.words.specs.Bits.{is_odd}
 use Rattle.calls.specs.Parities.{measure_row_call, row_answer, row_record}
-use Rattle.calls.specs.Asked.{lent_outcome, row_asked}
 
 module _ (u : UsedRecord) (z x b : ℕ) {k : ℕ}
     (e : k ≡ first_fitting (used_lines u false (leb (2 ^ u.held.n) (bit_or z x)) (leb 2 b))) where
@@ -47,16 +46,15 @@ module _ (u : UsedRecord) (z x b : ℕ) {k : ℕ}
       pub row_done : (answer determined : ℕ) (r : Outcome) (nb' cs' : List ℕ)
           → RowInPlace u.held.neighbours u.held.codes z x (is_odd b) r nb' cs' → (answer' determined' : ℕ)
           → answer' ≡ outcome_number r → determined' ≡ determined_number r
-          → Call (measure_row_call u (row_asked z x b) (lent_outcome answer determined)
-          (lent_record u.held.n nb' cs') (lent_outcome answer' determined')) 0
+          → Call (measure_row_call u z x b answer determined nb' cs' answer' determined') 0
       row_done answer determined r nb' cs' M answer' determined' ea ed =
           done _ row-0 refl (
             ea ∙ ap outcome_number answers,
             (
               ed ∙ ap determined_number answers,
               (
-                M.after.neighbours ∙ ap (λ m. neighbour_words m (row_record (at m) (row_asked z x b))) long,
-                (M.after.numbers ∙ ap (λ m. code_numbers m (row_record (at m) (row_asked z x b))) long, tt),
+                M.after.neighbours ∙ ap (λ m. neighbour_words m (row_record (at m) z x b)) long,
+                (M.after.numbers ∙ ap (λ m. code_numbers m (row_record (at m) z x b)) long, tt),
               ),
             ),
           )
@@ -67,5 +65,5 @@ module _ (u : UsedRecord) (z x b : ℕ) {k : ℕ}
           long : length u.held.neighbours ≡ u.held.n
           long = row_fits.held.neighbours-length
 
-          answers : r ≡ row_answer u.held (row_asked z x b)
-          answers = M.answer ∙ ap (λ m. row_answer (at m) (row_asked z x b)) long
+          answers : r ≡ row_answer u.held z x b
+          answers = M.answer ∙ ap (λ m. row_answer (at m) z x b) long

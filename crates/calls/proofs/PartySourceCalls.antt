@@ -8,17 +8,16 @@ use Rattle.source.proofs.ObservedParties.{party-observed}
 use Rattle.source.specs.PartySources.{party_observe_lines}
 use Rattle.operations.specs.Measurement.{determined_number, outcome_number}
 use Rattle.source.proofs.Observed.{answered, observed-answer}
-use Rattle.operations.specs.Used.{UsedRecord, used_record}
+use Rattle.operations.specs.Used.{UsedRecord}
 use Rattle.calls.specs.Parties.{party_measure_call}
 use Rattle.calls.specs.Sources.{party_observe_call}
-use Rattle.calls.specs.Asked.{lent_outcome, pauli_asked}
 
 module _ (word g : ℕ) (u : UsedRecord) (pauli q b answer determined : ℕ) (nb' cs' : List ℕ)
     (used' answer' determined' : ℕ) where
-  pub observed-as-measured : Call (party_observe_call word g u (pauli_asked pauli q b) (lent_outcome answer determined)
-      (used_record u.held.n nb' cs' used') (lent_outcome answer' determined')) 0
-      → Call (party_measure_call word g u (pauli_asked pauli q (answered u pauli q b)) (lent_outcome answer determined)
-      (used_record u.held.n nb' cs' used') (lent_outcome answer' determined')) 0
+  pub observed-as-measured : Call (party_observe_call word g u pauli q b answer determined nb' cs' used' answer'
+      determined') 0
+      → Call (party_measure_call word g u pauli q (answered u pauli q b) answer determined nb' cs' used' answer'
+      determined') 0
   observed-as-measured C =
       record {
         number = sym (party-observed word g u pauli q b (sym C.number));
@@ -32,10 +31,9 @@ module _ (word g : ℕ) (u : UsedRecord) (pauli q b answer determined : ℕ) (nb
       }
 
   pub measured-as-observed : first_fitting (party_observe_lines word g u pauli q b) ≡ 0
-      → Call (party_measure_call word g u (pauli_asked pauli q (answered u pauli q b)) (lent_outcome answer determined)
-      (used_record u.held.n nb' cs' used') (lent_outcome answer' determined')) 0
-      → Call (party_observe_call word g u (pauli_asked pauli q b) (lent_outcome answer determined)
-      (used_record u.held.n nb' cs' used') (lent_outcome answer' determined')) 0
+      → Call (party_measure_call word g u pauli q (answered u pauli q b) answer determined nb' cs' used' answer'
+      determined') 0
+      → Call (party_observe_call word g u pauli q b answer determined nb' cs' used' answer' determined') 0
   measured-as-observed z C =
       record {
         number = sym z;

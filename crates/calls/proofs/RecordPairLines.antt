@@ -32,7 +32,6 @@ use Rattle.calls.specs.RecordComparisons.{
   records_count,
   records_lines,
 }
-use Rattle.calls.specs.Comparisons.{lent_choice}
 
 pub records-numbered : (l m : LentRecord) (choice list : List ℕ) → Numbered (records_lines l m choice list)
 records-numbered l m choice list = (lit< tt, (lit< tt, (lit< tt, (lit< tt, (lit< tt, tt)))))
@@ -83,7 +82,7 @@ module _ (l m : LentRecord) (choice list : List ℕ) (p : records_count l m ≡ 
   pub records-answered : first_fitting (records_lines l m choice list) ≡ 0 →
       {limited : Bool} {count k : ℕ} {choice' list' : List ℕ} {count' : ℕ} →
       PairAnswered limited l.n (held_rows l) (held_rows m) choice list count k choice' list' count' →
-      Call (comparing_records_call limited l m (lent_choice choice list count) (lent_choice choice' list' count')) k
+      Call (comparing_records_call limited l m choice list count choice' list' count') k
   records-answered a {limited} Q =
       record {
         number = Q.number

@@ -20,21 +20,19 @@ use Rattle.source.proofs.Observed.{answered, observed-accepted, observed-answer,
 use Rattle.source.proofs.RenewedRecords.{renew-passes, unmarked-word}
 use Rattle.source.specs.Renewal.{renew_lines}
 use Rattle.operations.proofs.MeasuringMarks.{marked-word}
-use Rattle.operations.specs.Used.{UsedRecord, used_arguments_of, used_code, used_lines, used_record}
+use Rattle.operations.specs.Used.{UsedRecord, used_arguments_of, used_code, used_lines}
 use Rattle.words.specs.Bits.{bit, is_odd}
-use Rattle.operations.proofs.InPlaceLines.{held-accepted}
-use Rattle.operations.proofs.MeasureLines.{arguments-before}
+use Rattle.calls.proofs.InPlaceLines.{held-accepted}
+use Rattle.calls.proofs.MeasureLines.{arguments-before}
 use Rattle.calls.specs.InPlace.{used_measure_call}
 use Rattle.calls.specs.Sources.{observe_call, renew_call}
-use Rattle.calls.specs.Asked.{lent_outcome, pauli_asked}
 
 pub observe-done : (u : UsedRecord) (pauli q b answer determined : ℕ) {k : ℕ}
     → k ≡ first_fitting (used_arguments_of u (measurement_of pauli q b)) → k ≡ 0 → (r : Outcome) (nb' cs' : List ℕ)
     → MeasuredInPlace u.held.neighbours u.held.codes pauli q (is_odd b) r nb' cs'
     → (used' answer' determined' : ℕ) → used' ≡ bit_or u.used (2 ^ q) → answer' ≡ outcome_number r
     → determined' ≡ determined_number r
-    → Call (observe_call u (pauli_asked pauli q b) (lent_outcome answer determined)
-    (used_record u.held.n nb' cs' used') (lent_outcome answer' determined')) 0
+    → Call (observe_call u pauli q b answer determined nb' cs' used' answer' determined') 0
 observe-done u pauli q b answer determined e z r nb' cs' M used' answer' determined' eu ea ed =
     done _ e z (
       eu ∙ sym (marked-word u pauli q (answered u pauli q b) (observed-passes u pauli q b (sym e ∙ z))),
@@ -62,10 +60,8 @@ observe-done u pauli q b answer determined e z r nb' cs' M used' answer' determi
 -- accepted, it is the measurement with the outcome that it answers
 pub observe-as-measured : (u : UsedRecord) (pauli q b : ℕ) {answer determined : ℕ} {nb' cs' : List ℕ}
     {used' answer' determined' : ℕ}
-    → Call (observe_call u (pauli_asked pauli q b) (lent_outcome answer determined)
-    (used_record u.held.n nb' cs' used') (lent_outcome answer' determined')) 0
-    → Call (used_measure_call u (pauli_asked pauli q (answered u pauli q b)) (lent_outcome answer determined)
-    (used_record u.held.n nb' cs' used') (lent_outcome answer' determined')) 0
+    → Call (observe_call u pauli q b answer determined nb' cs' used' answer' determined') 0
+    → Call (used_measure_call u pauli q (answered u pauli q b) answer determined nb' cs' used' answer' determined') 0
 observe-as-measured u pauli q b C =
     record {
       number = sym (observed-accepted u pauli q b (sym C.number));

@@ -17,20 +17,10 @@ amplitude_lines u y = used_lines u false (leb (2 ^ u.held.n) y) false
 abbrev pub bits_of : Float → ℕ
 bits_of = to_bits binary64
 
--- what the three numbers hold that are lent for the answer
-pub record LentPlot : Type 0 where
-  pub re : ℕ
-  pub im : ℕ
-  pub p : ℕ
-
--- these three arguments of a call
-abbrev pub lent_plot : ℕ → ℕ → ℕ → LentPlot
-lent_plot re im p = record { re = re; im = im; p = p }
-
 -- ---- sukhlent_amplitude: "three floats, real part, imaginary part and probability"
-abbrev pub amplitude_call : UsedRecord → ℕ → LentPlot → LentPlot → Contract
-amplitude_call u y a a' =
+abbrev pub amplitude_call : (u : UsedRecord) (y re im p re' im' p' : ℕ) → Contract
+amplitude_call u y re im p re' im' p' =
     contract_of (amplitude_lines u y)
-    (number a.re (bits_of (plot_at u.held.n (held_rows u.held) y).re) a'.re
-    ∷ number a.im (bits_of (plot_at u.held.n (held_rows u.held) y).im) a'.im
-    ∷ number a.p (bits_of (plot_at u.held.n (held_rows u.held) y).p) a'.p ∷ [])
+    (number re (bits_of (plot_at u.held.n (held_rows u.held) y).re) re'
+    ∷ number im (bits_of (plot_at u.held.n (held_rows u.held) y).im) im'
+    ∷ number p (bits_of (plot_at u.held.n (held_rows u.held) y).p) p' ∷ [])

@@ -5,28 +5,14 @@ use Rattle.buffers.specs.Buffers.{tabulate, written}
 use Rattle.comparison.specs.Choices.{least_code}
 use Rattle.comparison.specs.Compared.{compare_lines}
 use Rattle.comparison.specs.ComparedPairs.{compare_list}
-use Rattle.buffers.specs.Calls.{Contract, Lent, buffer, contract_of, number}
-use Rattle.pauli.specs.Pauli.{Pauli}
+use Rattle.buffers.specs.Calls.{Contract, buffer, contract_of, number}
 use Rattle.stabilizer.specs.Lists.{GeneratorList, rows}
 
--- what is lent for the answer of a comparison
-pub record LentChoice : Type 0 where
-  pub choice : List ℕ
-  pub list : List ℕ
-  pub count : ℕ
-
--- these three arguments of a call
-abbrev pub lent_choice : List ℕ → List ℕ → ℕ → LentChoice
-lent_choice choice list count = record { choice = choice; list = list; count = count }
-
--- the least choice, the complementation list and its count
-abbrev pub compared_lent : ℕ → (ℕ → Pauli) → (ℕ → Pauli) → LentChoice → LentChoice → List Lent
-compared_lent n R S c c' =
-    buffer c.choice (tabulate n (least_code n R S)) c'.choice
-    ∷ buffer c.list (written (compare_list n R S) c.list) c'.list
-    ∷ number c.count (length (compare_list n R S)) c'.count ∷ []
-
--- ---- sukhlent_compare
-abbrev pub compare_call : GeneratorList → GeneratorList → LentChoice → LentChoice → Contract
-compare_call l m c c' =
-    contract_of (compare_lines l m c.choice c.list) (compared_lent l.n (rows l) (rows m) c c')
+-- ---- sukhlent_compare: the least choice, the complementation list and its count
+abbrev pub compare_call : (l m : GeneratorList) (choice list : List ℕ) (count : ℕ) (choice' list' : List ℕ)
+    (count' : ℕ) → Contract
+compare_call l m choice list count choice' list' count' =
+    contract_of (compare_lines l m choice list)
+    (buffer choice (tabulate l.n (least_code l.n (rows l) (rows m))) choice'
+    ∷ buffer list (written (compare_list l.n (rows l) (rows m)) list) list'
+    ∷ number count (length (compare_list l.n (rows l) (rows m))) count' ∷ [])

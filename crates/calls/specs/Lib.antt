@@ -1,4 +1,3 @@
-pub mod Asked
 pub mod Lists
 pub mod Products
 pub mod Strings

@@ -1,6 +1,6 @@
 -- What the call that measures a Pauli row promises, for all arguments. A name with a prime is what the buffer, or the
 -- lent number, holds at exit.
-use Rattle.std.specs.Prelude.{[], ◌∷◌}
+use Rattle.std.specs.Prelude.{List, [], ◌∷◌, ℕ}
 use Rattle.buffers.specs.Calls.{Contract, buffer, contract_of, number}
 use Rattle.operations.specs.Measurement.{determined_number, outcome_number}
 use Rattle.operations.specs.Used.{UsedRecord}
@@ -11,22 +11,21 @@ use Rattle.record.specs.Lent.{LentRecord, code_numbers, held_rows, neighbour_wor
 use Rattle.record.specs.Records.{GraphRecord}
 use Rattle.record.specs.Reduced.{reduced}
 use Rattle.words.specs.Bits.{is_odd}
-use Rattle.calls.specs.Asked.{LentOutcome, RowAsked}
 
 -- what is answered
-abbrev pub row_answer : LentRecord → RowAsked → Outcome
-row_answer l m = row_outcome l.n (held_rows l) m.z m.x (is_odd m.outcome)
+abbrev pub row_answer : LentRecord → ℕ → ℕ → ℕ → Outcome
+row_answer l z x b = row_outcome l.n (held_rows l) z x (is_odd b)
 
 -- "The reduced record is left"
-abbrev pub row_record : LentRecord → RowAsked → GraphRecord
-row_record l m = reduced l.n (row_measured l.n (held_rows l) m.z m.x (is_odd m.outcome))
+abbrev pub row_record : LentRecord → ℕ → ℕ → ℕ → GraphRecord
+row_record l z x b = reduced l.n (row_measured l.n (held_rows l) z x (is_odd b))
 
 -- ---- sukhlent_measure_row: "the Pauli row (z, x), sign plus, of any weight"; "the used word is only read"
-abbrev pub measure_row_call : (u : UsedRecord) (m : RowAsked) (t : LentOutcome) (l' : LentRecord) (t' : LentOutcome)
-    → Contract
-measure_row_call u m t l' t' =
-    contract_of (measure_row_lines u m.z m.x m.outcome)
-    (number t.outcome (outcome_number (row_answer u.held m)) t'.outcome
-    ∷ number t.determined (determined_number (row_answer u.held m)) t'.determined
-    ∷ buffer u.held.neighbours (neighbour_words u.held.n (row_record u.held m)) l'.neighbours
-    ∷ buffer u.held.codes (code_numbers u.held.n (row_record u.held m)) l'.codes ∷ [])
+abbrev pub measure_row_call : (u : UsedRecord) (z x b answer determined : ℕ) (neighbours' codes' : List ℕ)
+    (answer' determined' : ℕ) → Contract
+measure_row_call u z x b answer determined neighbours' codes' answer' determined' =
+    contract_of (measure_row_lines u z x b)
+    (number answer (outcome_number (row_answer u.held z x b)) answer'
+    ∷ number determined (determined_number (row_answer u.held z x b)) determined'
+    ∷ buffer u.held.neighbours (neighbour_words u.held.n (row_record u.held z x b)) neighbours'
+    ∷ buffer u.held.codes (code_numbers u.held.n (row_record u.held z x b)) codes' ∷ [])

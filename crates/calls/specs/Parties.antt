@@ -4,9 +4,8 @@ use Rattle.std.specs.Prelude.{List, [], ◌∷◌, ℕ}
 use Rattle.buffers.specs.Calls.{Contract, Lent, buffer, contract_of, number}
 use Rattle.parties.specs.PartyLines.{party_after, party_lines}
 use Rattle.operations.specs.Measurement.{determined_number, outcome_number}
-use Rattle.operations.specs.Steps.{Operation}
+use Rattle.operations.specs.Steps.{Operation, measured_answer, measurement_of}
 use Rattle.operations.specs.Used.{UsedRecord}
-use Rattle.calls.specs.Asked.{LentOutcome, PauliAsked, answer_to, measured_at}
 
 -- the record's two buffers
 abbrev pub party_lent : ℕ → ℕ → UsedRecord → Operation → List ℕ → List ℕ → List Lent
@@ -20,11 +19,11 @@ party_call word g u o neighbours' codes' =
     contract_of (party_lines word g u o) (party_lent word g u o neighbours' codes')
 
 -- ---- sukhlent_group_measure: outcome and determined are those of the whole record
-abbrev pub party_measure_call : (word g : ℕ) (u : UsedRecord) (m : PauliAsked) (t : LentOutcome) (u' : UsedRecord)
-    (t' : LentOutcome) → Contract
-party_measure_call word g u m t u' t' =
-    contract_of (party_lines word g u (measured_at m))
-    (number u.used (party_after word g u (measured_at m)).used u'.used
-    ∷ number t.outcome (outcome_number (answer_to u.held m)) t'.outcome
-    ∷ number t.determined (determined_number (answer_to u.held m)) t'.determined
-    ∷ party_lent word g u (measured_at m) u'.held.neighbours u'.held.codes)
+abbrev pub party_measure_call : (word g : ℕ) (u : UsedRecord) (pauli q b answer determined : ℕ)
+    (neighbours' codes' : List ℕ) (used' answer' determined' : ℕ) → Contract
+party_measure_call word g u pauli q b answer determined neighbours' codes' used' answer' determined' =
+    contract_of (party_lines word g u (measurement_of pauli q b))
+    (number u.used (party_after word g u (measurement_of pauli q b)).used used'
+    ∷ number answer (outcome_number (measured_answer u.held pauli q b)) answer'
+    ∷ number determined (determined_number (measured_answer u.held pauli q b)) determined'
+    ∷ party_lent word g u (measurement_of pauli q b) neighbours' codes')

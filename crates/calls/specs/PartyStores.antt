@@ -15,12 +15,13 @@ party_save_call word g u name st heads' nb' cs' =
     ∷ buffer st.codes (party_saved word g u name st).codes cs' ∷ [])
 
 -- ---- sukhlent_group_return
-abbrev pub party_return_call : (word g : ℕ) (u : UsedRecord) (name : ℕ) (st : Store) (u' : UsedRecord) → Contract
-party_return_call word g u name st u' =
+abbrev pub party_return_call : (word g : ℕ) (u : UsedRecord) (name : ℕ) (st : Store) (neighbours' codes' : List ℕ)
+    (used' : ℕ) → Contract
+party_return_call word g u name st neighbours' codes' used' =
     contract_of (party_named_lines word g u name st)
-    (buffer u.held.neighbours (party_returned word g u name st).held.neighbours u'.held.neighbours
-    ∷ buffer u.held.codes (party_returned word g u name st).held.codes u'.held.codes
-    ∷ number u.used (party_returned word g u name st).used u'.used ∷ [])
+    (buffer u.held.neighbours (party_returned word g u name st).held.neighbours neighbours'
+    ∷ buffer u.held.codes (party_returned word g u name st).held.codes codes'
+    ∷ number u.used (party_returned word g u name st).used used' ∷ [])
 
 -- ---- sukhlent_group_forget
 abbrev pub party_forget_call : ℕ → ℕ → UsedRecord → ℕ → Store → List ℕ → Contract

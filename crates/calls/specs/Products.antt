@@ -19,20 +19,10 @@ product_lines l chosen =
 abbrev pub chosen_product : GeneratorList → ℕ → Pauli
 chosen_product l chosen = product l.n l.n (bit chosen) (rows l)
 
--- what the three numbers hold that are lent for the answer
-pub record LentProduct : Type 0 where
-  pub z : ℕ
-  pub x : ℕ
-  pub phase : ℕ
-
--- these three arguments of a call
-abbrev pub lent_product : ℕ → ℕ → ℕ → LentProduct
-lent_product z x phase = record { z = z; x = x; phase = phase }
-
 -- ---- sukhlent_product: "the answer is the product and its phase", "a power of i from 0 to 3"
-abbrev pub product_call : GeneratorList → ℕ → LentProduct → LentProduct → Contract
-product_call l chosen a a' =
+abbrev pub product_call : (l : GeneratorList) (chosen z x phase z' x' phase' : ℕ) → Contract
+product_call l chosen z x phase z' x' phase' =
     contract_of (product_lines l chosen)
-    (number a.z (word_of l.n (chosen_product l chosen).z) a'.z
-    ∷ number a.x (word_of l.n (chosen_product l chosen).x) a'.x
-    ∷ number a.phase (exponent (chosen_product l chosen).phase) a'.phase ∷ [])
+    (number z (word_of l.n (chosen_product l chosen).z) z'
+    ∷ number x (word_of l.n (chosen_product l chosen).x) x'
+    ∷ number phase (exponent (chosen_product l chosen).phase) phase' ∷ [])

@@ -1,13 +1,14 @@
 -- What the call that compares two records promises, for all arguments: its lines in checking order, and the buffers
 -- lent for its answer. A name with a prime is what the buffer, or the lent number, holds at exit.
-use Rattle.std.specs.Prelude.{Bool, not, ◌||◌, ◌++◌, List, [], ◌∷◌, ℕ, eqb}
+use Rattle.std.specs.Prelude.{Bool, not, ◌||◌, ◌++◌, List, [], ◌∷◌, ℕ, eqb, length}
+use Rattle.buffers.specs.Buffers.{tabulate, written}
 use Rattle.buffers.specs.Refusals.{Refusal, bad_count, line, other_than}
-use Rattle.comparison.specs.Choices.{no_choice}
-use Rattle.buffers.specs.Calls.{Contract, contract_of}
+use Rattle.comparison.specs.Choices.{least_code, no_choice}
+use Rattle.comparison.specs.ComparedPairs.{compare_list}
+use Rattle.buffers.specs.Calls.{Contract, buffer, contract_of, number}
 use Rattle.comparison.specs.Parts.{part_above}
 use Rattle.record.specs.Lent.{LentRecord, held_record, held_rows, not_simple, record_codes, record_lengths, record_stray}
 use Rattle.record.specs.Reduced.{reduced_graph}
-use Rattle.calls.specs.Comparisons.{LentChoice, compared_lent}
 
 -- ---- lines, as for two lists: "of the numbers found in either the first in checking order is returned"
 -- 2: "n is 0 or above 64, or the two .. n differ"
@@ -41,6 +42,10 @@ compare_records_lines l m chosen list =
     ++ (line 3 (record_large_part l || record_large_part m) ∷ line 13 (no_choice l.n (held_rows l) (held_rows m)) ∷ [])
 
 -- ---- sukhlent_compare_records: the least choice, the complementation list and its count, of the records' generators
-abbrev pub compare_records_call : LentRecord → LentRecord → LentChoice → LentChoice → Contract
-compare_records_call l m c c' =
-    contract_of (compare_records_lines l m c.choice c.list) (compared_lent l.n (held_rows l) (held_rows m) c c')
+abbrev pub compare_records_call : (l m : LentRecord) (choice list : List ℕ) (count : ℕ) (choice' list' : List ℕ)
+    (count' : ℕ) → Contract
+compare_records_call l m choice list count choice' list' count' =
+    contract_of (compare_records_lines l m choice list)
+    (buffer choice (tabulate l.n (least_code l.n (held_rows l) (held_rows m))) choice'
+    ∷ buffer list (written (compare_list l.n (held_rows l) (held_rows m)) list) list'
+    ∷ number count (length (compare_list l.n (held_rows l) (held_rows m))) count' ∷ [])

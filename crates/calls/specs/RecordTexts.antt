@@ -8,7 +8,6 @@ use Rattle.operations.specs.Used.{used_lines, UsedRecord}
 use Rattle.text.specs.RecordTexts.{line_read, qubit_count, record_form}
 use Rattle.text.specs.Text.{record_text}
 use Rattle.words.specs.Bits.{word_of}
-use Rattle.calls.specs.Asked.{record_written}
 
 -- the record print of `reduce`
 abbrev pub print_of : UsedRecord → List ℕ
@@ -37,12 +36,16 @@ record_in_text t =
     }
 
 -- "judged over the whole text first (1)", "the names alone and more than 64 lines are 2; then 4, 5, 6, 7";
--- "`neighbours` and `codes` have 64 places"
+-- "`neighbours` and
+-- `codes` have 64 places"
 abbrev pub read_record_lines : List ℕ → List ℕ → List ℕ → List Refusal
 read_record_lines t nb cs =
     line 1 (not (record_form t)) ∷ used_lines (record_in_text t) (other_than 64 nb || other_than 64 cs) false false
 
 -- ---- sukhlent_read_record: "those from `*n` on keep their values"
-abbrev pub read_record_call : List ℕ → UsedRecord → UsedRecord → Contract
-read_record_call t u u' =
-    contract_of (read_record_lines t u.held.neighbours u.held.codes) (record_written (record_in_text t) u u')
+abbrev pub read_record_call : (t : List ℕ) (n : ℕ) (nb cs : List ℕ) (used n' : ℕ) (nb' cs' : List ℕ) (used' : ℕ) →
+    Contract
+read_record_call t n nb cs used n' nb' cs' used' =
+    contract_of (read_record_lines t nb cs)
+    (number n (record_in_text t).held.n n' ∷ buffer nb (written (record_in_text t).held.neighbours nb) nb'
+    ∷ buffer cs (written (record_in_text t).held.codes cs) cs' ∷ number used (record_in_text t).used used' ∷ [])

@@ -35,12 +35,13 @@ other_lengths s =
     || one_other_than (length s.ops) s.refusals s.outcomes s.determined
 
 -- 15: "at most 4,096 (else 15, before 2)"; then the lines of the record. 4: also where the slices' lengths differ; 6:
--- also "an op above 6". Anything else that is wrong with a step refuses that step alone
+-- also
+-- "an op above 6". Anything else that is wrong with a step refuses that step alone
 abbrev pub run_lines : UsedRecord → LentSteps → List Refusal
 run_lines u s = line 15 (ltb 4096 (length s.ops)) ∷ used_lines u (other_lengths s) false (reaching 7 s.ops)
 
 -- refusal, outcome and determined of each step, in a slice each. "Fields without meaning" are 0, so outcome and
--- determined of a refused step are 0 too
+-- determined of a refused step are
 abbrev pub answers_lent : LentSteps → List Answer → List ℕ → List ℕ → List ℕ → List Lent
 answers_lent s answers refusals' outcomes' determined' =
     buffer s.refusals (map (λ r. r.refusal) answers) refusals'
@@ -49,11 +50,11 @@ answers_lent s answers refusals' outcomes' determined' =
 
 -- ---- sukhlent_run: "each step's number stands in refusals, and a refused step changes nothing"; the record is what
 -- the steps leave, one after the other
-abbrev pub run_call : (u : UsedRecord) (s : LentSteps) (u' : UsedRecord) (refusals' outcomes' determined' : List ℕ)
-    → Contract
-run_call u s u' refusals' outcomes' determined' =
+abbrev pub run_call : (u : UsedRecord) (s : LentSteps) (neighbours' codes' : List ℕ) (used' : ℕ)
+    (refusals' outcomes' determined' : List ℕ) → Contract
+run_call u s neighbours' codes' used' refusals' outcomes' determined' =
     contract_of (run_lines u s)
-    (number u.used (run u (steps_of s)).used u'.used
-    ∷ buffer u.held.neighbours (run u (steps_of s)).held.neighbours u'.held.neighbours
-    ∷ buffer u.held.codes (run u (steps_of s)).held.codes u'.held.codes
+    (number u.used (run u (steps_of s)).used used'
+    ∷ buffer u.held.neighbours (run u (steps_of s)).held.neighbours neighbours'
+    ∷ buffer u.held.codes (run u (steps_of s)).held.codes codes'
     ∷ answers_lent s (step_answers u (steps_of s)) refusals' outcomes' determined')

@@ -1,4 +1,4 @@
--- What the contract of each call on a record and on a store says is the action of a session.
+-- What the contract of each call on a record and on a store says is the action of a session_of.
 use mathlib.Core.Bool.{Bool, cond, false, not, true, ◌||◌}
 use mathlib.Core.List.{List}
 use mathlib.Core.Path.{ap, ap₂, refl, sym, ◌∙◌, ◌≡◌}
@@ -14,7 +14,6 @@ use Rattle.calls.proofs.SourceCalls.{observe-as-measured}
 use Rattle.calls.specs.InPlace.{used_call, used_measure_call}
 use Rattle.calls.specs.Sources.{observe_call, renew_call}
 use Rattle.calls.specs.Stores.{forget_call, held_under, return_call, save_call}
-use Rattle.calls.specs.Asked.{lent_outcome, pauli_asked}
 use Rattle.buffers.specs.Calls.{Call}
 use Rattle.jobs.proofs.Numbers.{accepted-leaves, left-by-operation, number-of-request, refused-keeps}
 use Rattle.jobs.specs.Asked.{
@@ -86,8 +85,7 @@ copied u o e = go (eqb (first_fitting (used_lines_of u o)) 0)
 
 measure-leaves : (u : UsedRecord) (pauli q b answer determined r : ℕ) (nb' cs' : List ℕ)
     (used' answer' determined' : ℕ) →
-    Call (used_measure_call u (pauli_asked pauli q b) (lent_outcome answer determined)
-    (used_record u.held.n nb' cs' used') (lent_outcome answer' determined')) r →
+    Call (used_measure_call u pauli q b answer determined nb' cs' used' answer' determined') r →
     MeasureLeaves u pauli q b (left_used u nb' cs' used')
 measure-leaves u pauli q b answer determined r nb' cs' used' answer' determined' C value p e st =
     ap (λ v. session_of v st) (left-by-operation u (step_with Measure q 0 value) _ refl refl
@@ -97,8 +95,7 @@ measure-leaves u pauli q b answer determined r nb' cs' used' answer' determined'
 -- an observation is the measurement with the outcome that it answers
 observe-leaves : (u : UsedRecord) (pauli q b answer determined r : ℕ) (nb' cs' : List ℕ)
     (used' answer' determined' : ℕ) →
-    Call (observe_call u (pauli_asked pauli q b) (lent_outcome answer determined)
-    (used_record u.held.n nb' cs' used') (lent_outcome answer' determined')) r →
+    Call (observe_call u pauli q b answer determined nb' cs' used' answer' determined') r →
     ObserveLeaves u pauli q b (left_used u nb' cs' used')
 observe-leaves u pauli q b answer determined r nb' cs' used' answer' determined' C value p e =
     called-leaves u (step_with Observe q 0 value) (observation_of pauli q b)
@@ -151,7 +148,7 @@ forget-leaves name st r heads' C u = ap (session_of u) (sym
 -- ---- a return
 module _ (name : ℕ) (st : Store) (n : ℕ) (nb cs : List ℕ) (used n' : ℕ) (nb' cs' : List ℕ) (used' r : ℕ)
     (long : length nb ≡ 64) (codes-long : length cs ≡ 64)
-    (C : Call (return_call name st (used_record n nb cs used) (used_record n' nb' cs' used')) r) where
+    (C : Call (return_call name st n nb cs used n' nb' cs' used') r) where
   -- buffers of 64 places refuse nothing
   number : r ≡ first_fitting (named_lines 8 name st false)
   number = C.number ∙ ap₂ (λ k l. first_fitting (named_lines 8 name st (not (eqb k 64) || not (eqb l 64)))) long

@@ -11,8 +11,8 @@ use Rattle.operations.proofs.Contradicted.{contradicts-exactly}
 use Rattle.operations.specs.Measurement.{contradicts, pauli_letter}
 use Rattle.operations.specs.Steps.{argument_lines}
 use Rattle.record.specs.Lent.{LentRecord, held_rows}
-use Rattle.operations.proofs.InPlaceLines.{held-accepted, measure-ready}
-use Rattle.operations.proofs.MeasureLines.{arguments-before, fourteen-exactly}
+use Rattle.calls.proofs.InPlaceLines.{held-accepted, measure-ready}
+use Rattle.calls.proofs.MeasureLines.{arguments-before, fourteen-exactly}
 use Rattle.stabilizer.specs.Groups.{InGroup}
 use Rattle.words.specs.Bits.{is_odd}
 use Rattle.claims.specs.OperationsDemand.{ContradictionsRefused, signed_pauli}

@@ -18,7 +18,7 @@ use Rattle.record.proofs.AcceptedRecords.{accepted-record}
 use Rattle.record.specs.Accepted.{AcceptedRecord}
 use Rattle.record.specs.Lent.{LentRecord, held_record}
 use Rattle.record.specs.Records.{GraphRecord}
-use Rattle.operations.proofs.InPlaceLines.{cz-ready, held-accepted}
+use Rattle.calls.proofs.InPlaceLines.{cz-ready, held-accepted}
 use Rattle.words.specs.Bits.{Word, bit}
 use Rattle.claims.proofs.CzInsideSide.{entangled-cut}
 use Rattle.claims.proofs.GatesFollow.{cz-follows, gates-follow}

@@ -11,7 +11,6 @@ use Rattle.buffers.specs.Refusals.{Refusal, first_fitting, line}
 use Rattle.calls.proofs.PairLines.{pair-numbered}
 use Rattle.calls.specs.Equivalences.{equivalent_call}
 use Rattle.calls.specs.RecordComparisons.{records_count, records_lines, records_not_simple}
-use Rattle.calls.specs.Comparisons.{lent_choice}
 use Rattle.claims.proofs.AcceptedPairs.{accepted-pair, no-line-holds}
 use Rattle.claims.proofs.LinesExactly.{list-exactly}
 use Rattle.claims.proofs.PartsDemandHolds.{no-large}
@@ -89,7 +88,7 @@ never-3 l m choice list count r choice' list' count' C h = others _ _ _ _ _ _ _ 
 
 -- ---- demand 1: an accepted comparison has few complementations, by demand 3
 pub conforms : (l m : GeneratorList) (choice list : List ℕ) (count : ℕ) (choice' list' : List ℕ) (count' : ℕ) →
-    Conforms (equivalent_call l m (lent_choice choice list count) (lent_choice choice' list' count'))
+    Conforms (equivalent_call l m choice list count choice' list' count')
 conforms l m choice list count choice' list' count' =
     record {
       order = refl;
@@ -109,7 +108,7 @@ conforms l m choice list count choice' list' count' =
 
 -- ---- in one record
 module _ (l m : GeneratorList) (choice list : List ℕ) (count : ℕ) (choice' list' : List ℕ) (count' r : ℕ)
-    (C : Call (equivalent_call l m (lent_choice choice list count) (lent_choice choice' list' count')) r) where
+    (C : Call (equivalent_call l m choice list count choice' list' count') r) where
   exactly : (r ≡ 0) ↔ EquivalentFits l m choice list
   exactly = (
     (λ z. let p = none-of-all (pair_lines l m choice list) _ (pair-numbered l m choice list) (sym C.number ∙ z) in

@@ -12,7 +12,7 @@ use Rattle.buffers.specs.Buffers.{accepted, accepted_number, tabulate, written}
 use Rattle.buffers.specs.Refusals.{bad_count, first_fitting, line, other_than}
 use Rattle.calls.proofs.PairLines.{pair-numbered}
 use Rattle.calls.proofs.RecordPairLines.{records-numbered}
-use Rattle.calls.specs.Comparisons.{compare_call, lent_choice}
+use Rattle.calls.specs.Comparisons.{compare_call}
 use Rattle.calls.specs.RecordComparisons.{
   compare_records_call,
   compare_records_lines,
@@ -179,9 +179,8 @@ module _ (n : ℕ) (nb cs nb₂ cs₂ chosen list : List ℕ)
       (pair-numbered (expansion l) (expansion m) chosen list) expansions-pass)
 
   pub same_at : (count : ℕ) (chosen' list' : List ℕ) (count' r : ℕ) →
-      Call (compare_records_call l m (lent_choice chosen list count) (lent_choice chosen' list' count')) r
-      ↔ Call (compare_call (expansion l) (expansion m) (lent_choice chosen list count)
-      (lent_choice chosen' list' count')) r
+      Call (compare_records_call l m chosen list count chosen' list' count') r
+      ↔ Call (compare_call (expansion l) (expansion m) chosen list count chosen' list' count') r
   same_at count chosen' list' count' r = (
     λ C. record {
       number = C.number ∙ same_number;

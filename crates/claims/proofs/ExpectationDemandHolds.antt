@@ -8,7 +8,7 @@ use native.Mathlib.Omega.{arith}
 use lib.Dec.{eqb}
 use lib.ListN.{length}
 use Rattle.calls.proofs.ExpectationLines.{AcceptedRow, accepted-row}
-use Rattle.operations.proofs.InPlaceLines.{cz-ready, held-accepted}
+use Rattle.calls.proofs.InPlaceLines.{cz-ready, held-accepted}
 use Rattle.clifford.proofs.VectorLaws.{act-anticommute, act-imaginary, act-scaled}
 use Rattle.clifford.specs.Clifford.{Clifford, clifford_of}
 use Rattle.clifford.specs.Vectors.{act, only}

@@ -27,7 +27,7 @@ use Rattle.record.specs.Reduced.{reduced}
 use Rattle.stabilizer.proofs.Carried.{carries_same}
 use Rattle.stabilizer.proofs.GroupLaws.{same-trans}
 use Rattle.stabilizer.specs.Groups.{InGroup, Proper}
-use Rattle.operations.proofs.InPlaceLines.{cz-ready, held-accepted}
+use Rattle.calls.proofs.InPlaceLines.{cz-ready, held-accepted}
 use Rattle.calls.specs.InPlace.{in_place_call}
 use Rattle.claims.specs.OperationsDemand.{
   CzFollows,

@@ -27,7 +27,7 @@ use Rattle.record.specs.Records.{GraphRecord}
 use Rattle.stabilizer.proofs.Carried.{same_rows}
 use Rattle.buffers.specs.Calls.{Call}
 use Rattle.calls.proofs.ImageLeft.{count_left, image-left, list_left, signs-left}
-use Rattle.calls.specs.Images.{image_call, lent_image}
+use Rattle.calls.specs.Images.{image_call}
 use Rattle.words.proofs.BitLaws.{digit_lt, odd-digit}
 use Rattle.words.specs.Bits.{digit}
 use Rattle.claims.proofs.ThirdDemandHolds.{graph-each, half}
@@ -36,7 +36,7 @@ use Rattle.claims.specs.ThirdDemand.{complement_each}
 
 module _ (l : LentRecord) (image signs list : List ℕ) (count r : ℕ) (image' signs' list' : List ℕ)
     (count' : ℕ)
-    (C : Call (image_call l (lent_image image signs list count) (lent_image image' signs' list' count')) r)
+    (C : Call (image_call l image signs list count image' signs' list' count') r)
     (e : first_fitting
     (record_lines l (other_than l.n image || (other_than l.n signs || other_than 96 list)) false) ≡ 0) where
   abbrev m : ℕ

@@ -13,7 +13,7 @@ use Rattle.operations.specs.Measurement.{contradicts, pauli_letter}
 use Rattle.operations.specs.Steps.{argument_lines, complement_lines, cz_lines, gate_lines, measure_lines, pivot_lines}
 use Rattle.record.specs.Accepted.{AcceptedRecord}
 use Rattle.record.specs.Lent.{LentRecord, held_record, held_rows}
-use Rattle.operations.proofs.MeasureLines.{measure-passes}
+use Rattle.calls.proofs.MeasureLines.{measure-passes}
 use Rattle.stabilizer.specs.Groups.{InGroup}
 use Rattle.words.proofs.Flags.{neither, never_true}
 use Rattle.words.specs.Bits.{is_odd}

@@ -7,8 +7,8 @@ use native.Mathlib.Decide.{ℕ_discrete}
 use lib.ListN.{take}
 use Rattle.buffers.proofs.AddedLines.{without-test}
 use Rattle.buffers.specs.Refusals.{first_fitting, with_test}
-use Rattle.operations.proofs.MeasureLines.{arguments-before, measure-passes}
-use Rattle.operations.proofs.UsedInPlace.{plain}
+use Rattle.calls.proofs.MeasureLines.{arguments-before, measure-passes}
+use Rattle.calls.proofs.UsedInPlace.{plain}
 use Rattle.buffers.proofs.Fitting.{decides}
 use Rattle.buffers.specs.Answers.{later, none}
 use Rattle.jobs.proofs.Numbers.{

@@ -47,7 +47,6 @@ pub mod SessionDemandHolds
 pub mod SessionNumbers
 pub mod SourceSteps
 pub mod StepLines
-pub mod StepsInWords
 pub mod StoreDemandHolds
 pub mod StoreRefusals
 pub mod StringsDemandHolds

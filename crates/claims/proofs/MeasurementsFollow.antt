@@ -32,14 +32,13 @@ use Rattle.pauli.specs.Pauli.{Pauli}
 use Rattle.pauli.specs.declared.Letter.{Letter}
 use Rattle.record.proofs.WrittenRecords.{reduced-held-same, written_record}
 use Rattle.record.specs.Accepted.{AcceptedRecord}
-use Rattle.record.specs.Lent.{LentRecord, held_rows, lent_record}
+use Rattle.record.specs.Lent.{LentRecord, held_rows}
 use Rattle.record.specs.Reduced.{reduced}
 use Rattle.stabilizer.specs.Groups.{InGroup, Proper, SameGroup}
-use Rattle.operations.proofs.InPlaceLines.{held-accepted, measure-ready, six-passes}
-use Rattle.operations.proofs.MeasureLines.{measure-passes}
+use Rattle.calls.proofs.InPlaceLines.{held-accepted, measure-ready, six-passes}
+use Rattle.calls.proofs.MeasureLines.{measure-passes}
 use Rattle.buffers.specs.Calls.{Call}
 use Rattle.calls.specs.InPlace.{measure_call}
-use Rattle.calls.specs.Asked.{lent_outcome, pauli_asked}
 use Rattle.words.proofs.BitLaws.{digit-odd, is_odd-digit, odd-digit}
 use Rattle.words.proofs.Flags.{neither}
 use Rattle.words.specs.Bits.{digit, is_odd}
@@ -57,8 +56,7 @@ of-digit : (b : Bool) {k : ℕ} → digit b ≡ k → b ≡ eqb k 1
 of-digit b e = sym (odd-digit b) ∙ ap (λ k. eqb k 1) e
 
 module _ (l : LentRecord) (pauli q b answer determined : ℕ) (nb' cs' : List ℕ) (answer' determined' : ℕ)
-    (C : Call (measure_call l (pauli_asked pauli q b) (lent_outcome answer determined) (lent_record l.n nb' cs')
-    (lent_outcome answer' determined')) 0) where
+    (C : Call (measure_call l pauli q b answer determined nb' cs' answer' determined') 0) where
   abbrev n : ℕ
   n = l.n
 

@@ -9,12 +9,11 @@ use Prim.Native.Nat.{ℕ}
 use native.Mathlib.Nat.{mod-eq_of_lt}
 use native.Mathlib.Omega.{arith}
 use Rattle.buffers.specs.Refusals.{first_fitting}
-use Rattle.operations.proofs.InPlaceLines.{held-accepted}
-use Rattle.operations.proofs.MeasureLines.{arguments-before}
+use Rattle.calls.proofs.InPlaceLines.{held-accepted}
+use Rattle.calls.proofs.MeasureLines.{arguments-before}
 use Rattle.calls.proofs.SourceCalls.{observe-as-measured}
 use Rattle.calls.specs.InPlace.{used_measure_call}
 use Rattle.calls.specs.Sources.{observe_call}
-use Rattle.calls.specs.Asked.{lent_outcome, pauli_asked}
 use Rattle.claims.proofs.InPlaceExactly.{argument-lines}
 use Rattle.claims.proofs.MeasurementsFollow.{measurements-follow}
 use Rattle.claims.proofs.NumbersHold.{in_words}
@@ -36,7 +35,7 @@ use Rattle.record.specs.Lent.{held_rows}
 use Rattle.stabilizer.specs.Groups.{InGroup}
 use Rattle.operations.proofs.UsedInWords.{arguments-in-words}
 use Rattle.operations.proofs.UsedPassing.{in-place-counted, with-used-passes}
-use Rattle.operations.specs.Used.{UsedRecord, used_arguments_of, used_record, used_stray, used_wrong}
+use Rattle.operations.specs.Used.{UsedRecord, used_arguments_of, used_stray, used_wrong}
 use Rattle.operations.specs.UsedLaws.{earlier_lines}
 use Rattle.words.proofs.BitLaws.{digit-odd}
 use Rattle.words.specs.Bits.{bit, digit, is_odd}
@@ -79,8 +78,7 @@ module _ (u : UsedRecord) (pauli q b : ℕ) where
       passes = with-used-passes u (argument_lines u.held pauli q b) (in-place-counted u.held _ _) (bit u.used q)
 
   module _ (answer determined : ℕ) (nb' cs' : List ℕ) (used' answer' determined' : ℕ) where
-    observe-conforms : Conforms (observe_call u (pauli_asked pauli q b) (lent_outcome answer determined)
-        (used_record u.held.n nb' cs' used') (lent_outcome answer' determined'))
+    observe-conforms : Conforms (observe_call u pauli q b answer determined nb' cs' used' answer' determined')
     observe-conforms =
         record {
           order = refl;
@@ -100,12 +98,9 @@ module _ (u : UsedRecord) (pauli q b : ℕ) where
         }
 
     -- ---- an accepted one
-    module _ (C : Call (observe_call u (pauli_asked pauli q b) (lent_outcome answer determined)
-        (used_record u.held.n nb' cs' used') (lent_outcome answer' determined')) 0) where
-      as-measured : Call (used_measure_call u (pauli_asked pauli q answer') (lent_outcome answer determined)
-          (used_record u.held.n nb' cs' used') (lent_outcome answer' determined')) 0
-      as-measured = subst (λ v. Call (used_measure_call u (pauli_asked pauli q v) (lent_outcome answer determined)
-          (used_record u.held.n nb' cs' used') (lent_outcome answer' determined'))
+    module _ (C : Call (observe_call u pauli q b answer determined nb' cs' used' answer' determined') 0) where
+      as-measured : Call (used_measure_call u pauli q answer' answer determined nb' cs' used' answer' determined') 0
+      as-measured = subst (λ v. Call (used_measure_call u pauli q v answer determined nb' cs' used' answer' determined')
           0)
           (sym C.held.1.0) (observe-as-measured u pauli q b C)
 
@@ -146,12 +141,10 @@ module _ (u : UsedRecord) (pauli q b : ℕ) where
             passes = M.passes;
           }
 
-    module _ (r : ℕ) (C : Call (observe_call u (pauli_asked pauli q b) (lent_outcome answer determined)
-        (used_record u.held.n nb' cs' used') (lent_outcome answer' determined')) r) where
+    module _ (r : ℕ) (C : Call (observe_call u pauli q b answer determined nb' cs' used' answer' determined') r) where
       -- where the measurement is accepted
-      same : MeasureFits u pauli q b → Call (used_measure_call u (pauli_asked pauli q b)
-          (lent_outcome answer determined) (used_record u.held.n nb' cs' used')
-          (lent_outcome answer' determined')) r
+      same : MeasureFits u pauli q b → Call (used_measure_call u pauli q b answer determined nb' cs' used' answer'
+          determined') r
       same F =
           record {
             number = C.number ∙ observe-lines.1 (record {

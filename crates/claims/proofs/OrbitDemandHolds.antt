@@ -12,7 +12,7 @@ use lib.Seq.{drop_at, get_or-take, take_at}
 use Rattle.buffers.specs.Refusals.{first_fitting}
 use Rattle.calls.proofs.AcceptedGraphs.{AcceptedGraph, accepted-graph, simple-graph}
 use Rattle.calls.specs.Orbits.{orbit_call, orbit_lines, orbit_of}
-use Rattle.calls.specs.Comparisons.{compare_call, lent_choice}
+use Rattle.calls.specs.Comparisons.{compare_call}
 use Rattle.buffers.specs.Calls.{Call}
 use Rattle.record.specs.Graph.{Simple}
 use Rattle.record.specs.NeighbourWords.{graph_in}
@@ -74,7 +74,7 @@ module _ (l m : GeneratorList) (first second list : List ℕ) (count : ℕ) (lis
     (E : Describes l (graph_in first)) (F : Describes m (graph_in second))
     (choice vertices : List ℕ) (size r : ℕ) (choice' vertices' : List ℕ) (size' : ℕ)
     (A : AcceptedPair l m choice vertices)
-    (D : Call (compare_call l m (lent_choice choice vertices size) (lent_choice choice' vertices' size')) r) where
+    (D : Call (compare_call l m choice vertices size choice' vertices' size') r) where
   few : l.n ≤ 6
   few = (accepted l.n first list count list' count' C).few
 

@@ -227,8 +227,7 @@ module _ (word g : ℕ) (u : UsedRecord) (st : Store) where
 
   shared-exactly : (first_fitting (shared_lines word g u st) ≡ 0) ↔ SharedFits word g u st
   shared-exactly = (
-    (λ e. let p = (more-exactly (with_party g u.held.n both) _
-        (lit< tt, (lit< tt, (lit< tt, (lit< tt, (lit< tt, tt)))))).0 e in
+    (λ e. let p = (more-exactly (with_party g u.held.n both) _ (lit< tt, (lit< tt, (lit< tt, (lit< tt, (lit< tt, tt)))))).0 e in
         let t = party-tests.0 p.0 in
         let n64 = eqb-true u.held.n 64 (not-false _ t.1) in
         let T = parties-of word g u n64 t.0.1 ((last-exactly 18 (crosses word u)).0 p.1) in

@@ -9,7 +9,7 @@ use lib.ListN.{length}
 use Rattle.calls.proofs.RecordPairLines.{records-numbered}
 use Rattle.buffers.proofs.Lines.{fits, more-accepted, none-fits, none-of-all, passed}
 use Rattle.buffers.specs.Refusals.{Refusal, first_fitting, line}
-use Rattle.calls.specs.Comparisons.{compare_call, lent_choice}
+use Rattle.calls.specs.Comparisons.{compare_call}
 use Rattle.calls.specs.RecordComparisons.{
   compare_records_call,
   compare_records_lines,
@@ -58,9 +58,8 @@ pub same-on-expansions : SameOnExpansions
 same-on-expansions l m choice list count choice' list' count' r e =
     let A = both-accepted l m choice list e in
     subst (λ k. BothAccepted l (with_count m k) choice list →
-    Call (compare_records_call l (with_count m k) (lent_choice choice list count) (lent_choice choice' list' count')) r
-    ↔ Call (compare_call (expansion l) (expansion (with_count m k)) (lent_choice choice list count)
-    (lent_choice choice' list' count')) r)
+    Call (compare_records_call l (with_count m k) choice list count choice' list' count') r
+    ↔ Call (compare_call (expansion l) (expansion (with_count m k)) choice list count choice' list' count') r)
     A.same_count
     (λ B. same_at l.n l.neighbours l.codes m.neighbours m.codes choice list B count choice' list' count'
     r)
@@ -156,8 +155,7 @@ records-taken l m choice list {r} number A =
 
 -- ---- all that is said of the exported function
 pub compare-records-says : (l m : LentRecord) (choice list : List ℕ) (count : ℕ) (choice' list' : List ℕ)
-    (count' r : ℕ) → Call (compare_records_call l m (lent_choice choice list count)
-    (lent_choice choice' list' count')) r →
+    (count' r : ℕ) → Call (compare_records_call l m choice list count choice' list' count') r →
     CompareRecordsSays l m choice list count choice' list' count' r
 compare-records-says l m choice list count choice' list' count' r C =
     record {

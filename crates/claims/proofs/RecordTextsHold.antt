@@ -85,7 +85,7 @@ write-conforms u text size text' size' =
     }
 
 read-conforms : (t : List ℕ) (n : ℕ) (nb cs : List ℕ) (used n' : ℕ) (nb' cs' : List ℕ) (used' : ℕ) →
-    Conforms (read_record_call t (used_record n nb cs used) (used_record n' nb' cs' used'))
+    Conforms (read_record_call t n nb cs used n' nb' cs' used')
 read-conforms t n nb cs used n' nb' cs' used' =
     record {
       order = refl;
@@ -121,7 +121,7 @@ module _ (u : UsedRecord) (text : List ℕ) (size : ℕ) (text' : List ℕ) (siz
       ∙ ap (λ k. drop k text) (sym W.1.0)
 
 module _ (t : List ℕ) (n : ℕ) (nb cs : List ℕ) (used n' : ℕ) (nb' cs' : List ℕ) (used' : ℕ)
-    (C : Call (read_record_call t (used_record n nb cs used) (used_record n' nb' cs' used')) 0) where
+    (C : Call (read_record_call t n nb cs used n' nb' cs' used') 0) where
   parts : ReadParts t nb cs
   parts = read-parts t nb cs (no_line C refl)
 
@@ -179,8 +179,7 @@ write-record-says u text size text' size' r C =
     }
 
 pub read-record-says : (t : List ℕ) (n : ℕ) (nb cs : List ℕ) (used n' : ℕ) (nb' cs' : List ℕ) (used' r : ℕ) →
-    Call (read_record_call t (used_record n nb cs used) (used_record n' nb' cs' used')) r →
-    ReadRecordSays t n nb cs used n' nb' cs' used' r
+    Call (read_record_call t n nb cs used n' nb' cs' used') r → ReadRecordSays t n nb cs used n' nb' cs' used' r
 read-record-says t n nb cs used n' nb' cs' used' r C =
     record {
       answered = answered (read-conforms t n nb cs used n' nb' cs' used') C;

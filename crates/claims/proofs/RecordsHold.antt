@@ -13,7 +13,6 @@ use Rattle.calls.proofs.PairLines.{pair-numbered}
 use Rattle.calls.proofs.RecordPairLines.{records-numbered}
 use Rattle.calls.specs.Equivalences.{equivalent_call, equivalent_records_call, equivalent_records_lines}
 use Rattle.calls.specs.RecordComparisons.{records_lines}
-use Rattle.calls.specs.Comparisons.{lent_choice}
 use Rattle.claims.proofs.AcceptedPairs.{accepted-pair}
 use Rattle.claims.proofs.families.Shared.{answered}
 use Rattle.claims.specs.Conforming.{Conforms}
@@ -58,9 +57,8 @@ module _ (n : ℕ) (nb cs nb₂ cs₂ chosen list : List ℕ)
       (pair-numbered (expansion l) (expansion m) chosen list) (expansions-pass n nb cs nb₂ cs₂ chosen list A))
 
   expanded-at : (count : ℕ) (chosen' list' : List ℕ) (count' r : ℕ) →
-      Call (equivalent_records_call l m (lent_choice chosen list count) (lent_choice chosen' list' count')) r →
-      Call (equivalent_call (expansion l) (expansion m) (lent_choice chosen list count)
-      (lent_choice chosen' list' count')) r
+      Call (equivalent_records_call l m chosen list count chosen' list' count') r →
+      Call (equivalent_call (expansion l) (expansion m) chosen list count chosen' list' count') r
   expanded-at count chosen' list' count' r C =
       let vertices = list_back n (held_rows l) (held_rows m) A.first.proper A.second.proper in
       record {
@@ -78,16 +76,13 @@ module _ (n : ℕ) (nb cs nb₂ cs₂ chosen list : List ℕ)
 
 module _ (l m : LentRecord) (choice list : List ℕ) (count : ℕ) where
   expanded : (choice' list' : List ℕ) (count' r : ℕ) → first_fitting (records_lines l m choice list) ≡ 0 →
-      Call (equivalent_records_call l m (lent_choice choice list count) (lent_choice choice' list' count')) r →
-      Call (equivalent_call (expansion l) (expansion m) (lent_choice choice list count)
-      (lent_choice choice' list' count')) r
+      Call (equivalent_records_call l m choice list count choice' list' count') r →
+      Call (equivalent_call (expansion l) (expansion m) choice list count choice' list' count') r
   expanded choice' list' count' r e =
       let A = both-accepted l m choice list e in
       subst (λ k. BothAccepted l (with_count m k) choice list →
-      Call (equivalent_records_call l (with_count m k) (lent_choice choice list count)
-      (lent_choice choice' list' count')) r →
-      Call (equivalent_call (expansion l) (expansion (with_count m k)) (lent_choice choice list count)
-      (lent_choice choice' list' count')) r)
+      Call (equivalent_records_call l (with_count m k) choice list count choice' list' count') r →
+      Call (equivalent_call (expansion l) (expansion (with_count m k)) choice list count choice' list' count') r)
       A.same_count
       (λ B. expanded-at l.n l.neighbours l.codes m.neighbours m.codes choice list B count choice' list'
       count' r)
@@ -95,7 +90,7 @@ module _ (l m : LentRecord) (choice list : List ℕ) (count : ℕ) where
 
   -- ---- demand 1
   records-conform : (choice' list' : List ℕ) (count' : ℕ) →
-      Conforms (equivalent_records_call l m (lent_choice choice list count) (lent_choice choice' list' count'))
+      Conforms (equivalent_records_call l m choice list count choice' list' count')
   records-conform choice' list' count' =
       record {
         order = refl;
@@ -108,8 +103,7 @@ module _ (l m : LentRecord) (choice list : List ℕ) (count : ℕ) where
 
   -- ---- which arguments it accepts
   module _ (choice' list' : List ℕ) (count' r : ℕ)
-      (C : Call (equivalent_records_call l m (lent_choice choice list count)
-      (lent_choice choice' list' count')) r) where
+      (C : Call (equivalent_records_call l m choice list count choice' list' count') r) where
     exactly : (r ≡ 0) ↔ EquivalentRecordsFits l m choice list
     exactly = (
       (λ z. let p = none-of-all (records_lines l m choice list) _ (records-numbered l m choice list)
@@ -156,8 +150,7 @@ others false false false false false false h = omega (arith, h)
 
 -- ---- in one record
 pub equivalent-records-says : (l m : LentRecord) (choice list : List ℕ) (count : ℕ) (choice' list' : List ℕ)
-    (count' r : ℕ) → Call (equivalent_records_call l m (lent_choice choice list count)
-    (lent_choice choice' list' count')) r →
+    (count' r : ℕ) → Call (equivalent_records_call l m choice list count choice' list' count') r →
     EquivalentRecordsSays l m choice list count choice' list' count' r
 equivalent-records-says l m choice list count choice' list' count' r C =
     record {

@@ -138,7 +138,7 @@ module _ (u : UsedRecord) (q k : ℕ) where
         }
 
   -- the tests decide the sentences
-  pub renew-in-words : Matches (renew_lines u q k) (renew_sentences u q k)
+  renew-in-words : Matches (renew_lines u q k) (renew_sentences u q k)
   renew-in-words = and_then (used_lines u false false (not (used_code k)))
       (line 8 (leb u.held.n q) ∷ line 20 (not (bit u.used q)) ∷ [])
       (used_sentences u (RecordMisfits u.held) (StrayBit u) (CodeAbove23 u.held ⊎ (OfSix k → ⊥)))

@@ -23,10 +23,9 @@ use Rattle.stabilizer.proofs.EqualRows.{same-group-equal}
 use Rattle.stabilizer.proofs.GroupLaws.{same-trans}
 use Rattle.stabilizer.specs.Groups.{SameGroup}
 use Rattle.calls.proofs.InPlaceCalls.{left-by-call, marked-by-call}
-use Rattle.operations.proofs.InPlaceLines.{complement-ready, eight-passes, held-accepted}
+use Rattle.calls.proofs.InPlaceLines.{complement-ready, eight-passes, held-accepted}
 use Rattle.calls.specs.InPlace.{in_place_call, used_call, used_measure_call}
-use Rattle.calls.specs.Asked.{lent_outcome, pauli_asked}
-use Rattle.operations.specs.Used.{UsedRecord, used_after, used_record, used_step}
+use Rattle.operations.specs.Used.{UsedRecord, used_after, used_step}
 use Rattle.words.proofs.Flags.{neither}
 use Rattle.claims.proofs.GatesFollow.{holds-new}
 use Rattle.claims.specs.OperationsDemand.{ComplementsKeep, RewrittenAs, SecondAboutFirst, SecondAboutMeasured}
@@ -126,8 +125,7 @@ second-about-first u o₁ o₂ r₁ r₂ nb₁ cs₁ nb₂ cs₂ C D =
 -- ---- two measurements
 -- what one leaves is the step's record and used word
 pub is-measured : (u : UsedRecord) (pauli q b answer determined r : ℕ) (nb cs : List ℕ) (used answer' determined' : ℕ)
-    → Call (used_measure_call u (pauli_asked pauli q b) (lent_outcome answer determined)
-    (used_record u.held.n nb cs used) (lent_outcome answer' determined')) r
+    → Call (used_measure_call u pauli q b answer determined nb cs used answer' determined') r
     → record { held = left u.held nb cs; used = used } ≡ (used_step u (measurement_of pauli q b)).after
 is-measured u pauli q b answer determined r nb cs used answer' determined' C = λ i. record {
   held = is-after u (measurement_of pauli q b) r nb cs

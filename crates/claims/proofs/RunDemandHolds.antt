@@ -32,7 +32,7 @@ use Rattle.record.proofs.RecordInWords.{code-above-23, misfits, stray-neighbour}
 use Rattle.operations.proofs.UsedInWords.{used-in-words}
 
 module _ (u : UsedRecord) (s : LentSteps) (nb cs : List ℕ) (used : ℕ) (refusals outcomes determined : List ℕ)
-    (C : Call (run_call u s (used_record u.held.n nb cs used) refusals outcomes determined) 0) where
+    (C : Call (run_call u s nb cs used refusals outcomes determined) 0) where
   abbrev steps : List Step
   steps = steps_of s
 
@@ -113,7 +113,7 @@ run-words u s = (
 -- what the documents say of the exported function, from its contract
 pub run-says : (u : UsedRecord) (s : LentSteps) (nb' cs' : List ℕ) (used' : ℕ)
     (refusals' outcomes' determined' : List ℕ) (r : ℕ) →
-    Call (run_call u s (used_record u.held.n nb' cs' used') refusals' outcomes' determined') r →
+    Call (run_call u s nb' cs' used' refusals' outcomes' determined') r →
     RunSays u s nb' cs' used' refusals' outcomes' determined' r
 run-says u s nb' cs' used' refusals' outcomes' determined' r C =
     record {

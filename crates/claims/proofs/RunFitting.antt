@@ -23,7 +23,7 @@ use Rattle.jobs.specs.Runs.{run, step_answers}
 use Rattle.jobs.specs.declared.Answer.{Answer}
 use Rattle.jobs.proofs.StepAnswers.{each-answered}
 use Rattle.stabilizer.proofs.SharedTests.{below-passes}
-use Rattle.operations.specs.Used.{UsedRecord, UsedUnrefused, used_lines, used_record}
+use Rattle.operations.specs.Used.{UsedRecord, UsedUnrefused, used_lines}
 use Rattle.words.proofs.Flags.{neither}
 use Rattle.claims.specs.RunDemand.{RunBuffersUnread, RunFits, StepsFit}
 
@@ -95,7 +95,7 @@ module _ (u : UsedRecord) (s : LentSteps) where
         ∙ steps-long s.ops s.a s.b s.value ∙ sym e
 
   pub run-conforms : (nb' cs' : List ℕ) (used' : ℕ) (refusals' outcomes' determined' : List ℕ)
-      → Conforms (run_call u s (used_record u.held.n nb' cs' used') refusals' outcomes' determined')
+      → Conforms (run_call u s nb' cs' used' refusals' outcomes' determined')
   run-conforms nb' cs' used' refusals' outcomes' determined' =
       record {
         order = refl;
@@ -118,14 +118,12 @@ module _ (u : UsedRecord) (s : LentSteps) where
       }
 
   pub run-accepted-exactly : (nb' cs' : List ℕ) (used' : ℕ) (refusals' outcomes' determined' : List ℕ) (r : ℕ)
-      → Call (run_call u s (used_record u.held.n nb' cs' used') refusals' outcomes' determined') r →
-      (r ≡ 0) ↔ RunFits u s
+      → Call (run_call u s nb' cs' used' refusals' outcomes' determined') r → (r ≡ 0) ↔ RunFits u s
   run-accepted-exactly nb' cs' used' refusals' outcomes' determined' r C = Iff.trans (by_lines C) run-exactly
 
   -- every record that no line refuses is taken
   pub run-taken : (nb' cs' : List ℕ) (used' : ℕ) (refusals' outcomes' determined' : List ℕ) (r : ℕ)
-      → Call (run_call u s (used_record u.held.n nb' cs' used') refusals' outcomes' determined') r →
-      UsedUnrefused u → StepsFit s → r ≡ 0
+      → Call (run_call u s nb' cs' used' refusals' outcomes' determined') r → UsedUnrefused u → StepsFit s → r ≡ 0
   run-taken nb' cs' used' refusals' outcomes' determined' r C U S =
       (run-accepted-exactly nb' cs' used' refusals' outcomes' determined' r C).1
       (record { held = ((used-exactly u false false false).0 U.no_line).0; steps = S })

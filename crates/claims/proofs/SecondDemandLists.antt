@@ -150,8 +150,7 @@ words_left l nb cs used nb' cs' used' C = ap length C.held.1.0 ∙ tabulate-leng
 
 pub equal-for-all : EqualForAll
 equal-for-all l m nb cs nb₂ cs₂ nb' cs' nb₂' cs₂' used used₂ used' used₂' C D = (
-  λ e. let same_count = sym (words_left l nb cs used nb' cs' used' C) ∙ ap length e.0
-      ∙ words_left m nb₂ cs₂ used₂ nb₂' cs₂' used₂' D in
+  λ e. let same_count = sym (words_left l nb cs used nb' cs' used' C) ∙ ap length e.0 ∙ words_left m nb₂ cs₂ used₂ nb₂' cs₂' used₂' D in
       (same_count, (at m.n same_count D).0 e),
   λ h. (at m.n h.0 D).1 h.1,
 )

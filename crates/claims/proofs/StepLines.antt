@@ -31,7 +31,6 @@ use Rattle.operations.specs.declared.Outcome.TheVariants.{Chosen, Determined}
 use Rattle.record.specs.Lent.{LentRecord}
 use Rattle.operations.proofs.UsedPassing.{used_step}
 use Rattle.operations.specs.Used.{UsedRecord}
-use Rattle.claims.proofs.StepsInWords.{step-in-words}
 use Rattle.claims.proofs.JobSteps.{HasGroup, answer-stands}
 use Rattle.claims.proofs.JobsStand.{has-group, refused-exactly}
 use Rattle.claims.proofs.SourceSteps.{lot-determined, lot-outcome}
@@ -117,7 +116,6 @@ module _ (u : UsedRecord) (G : Group) (S : StandsFor u G) (s : Step) where
       go (yes z) =
           record {
             number = refl;
-            in_words = step-in-words u s;
             refused = exactly;
             either = subst (λ v. (v ≡ 0) ⊎ (v ≡ 1)) (sym d) (request-digit u.held (asked s));
             determined = (
@@ -141,7 +139,6 @@ module _ (u : UsedRecord) (G : Group) (S : StandsFor u G) (s : Step) where
       go (no h) =
           record {
             number = refl;
-            in_words = step-in-words u s;
             refused = exactly;
             either = inl d;
             determined = ((λ e. absurd (differ (sym d ∙ e))), (λ g. absurd (g.0 (exactly.0 h))));

@@ -53,8 +53,7 @@ module _ (u : UsedRecord) (name : ℕ) (st : Store) (z : first_fitting (save_lin
 -- ---- and of a return or a forget
 module _ (name : ℕ) (st : Store) (others : Bool) (z : first_fitting (named_lines 8 name st others) ≡ 0) where
   pub parts-named : (first_fitting (store_lines 8 st others) ≡ 0) × (not (holds_name 8 st.heads name) ≡ false)
-  parts-named =
-      let h = none-of-all (store_lines 8 st others) _ (lit< tt, (lit< tt, (lit< tt, (lit< tt, (lit< tt, tt))))) z in
+  parts-named = let h = none-of-all (store_lines 8 st others) _ (lit< tt, (lit< tt, (lit< tt, (lit< tt, (lit< tt, tt))))) z in
       (h.0, (not-held 16 (not (holds_name 8 st.heads name)) [] h.1).0)
 
   pub named-passing : Passing 8 st

@@ -5,8 +5,8 @@ use mathlib.Core.Path.{◌≡◌, ◌∙◌, refl, sym}
 use Prim.Native.Nat.{◌<◌, ℕ, ◌≤◌}
 use native.Mathlib.Decide.{ℕ_discrete}
 use Rattle.buffers.specs.Refusals.{first_fitting}
-use Rattle.operations.proofs.MeasureLines.{fourteen-exactly}
-use Rattle.operations.proofs.UsedInPlace.{plain}
+use Rattle.calls.proofs.MeasureLines.{fourteen-exactly}
+use Rattle.calls.proofs.UsedInPlace.{plain}
 use Rattle.buffers.proofs.Fitting.{decides}
 use Rattle.buffers.specs.Answers.{later, none}
 use Rattle.operations.specs.Steps.{argument_lines, measurement_of}

@@ -3,7 +3,6 @@ use mathlib.Core.Bool.{Bool, cond, false, true, true≢false, ◌||◌}
 use mathlib.Core.List.{List, [], ◌∷◌}
 use mathlib.Core.Logic.{◌↔◌}
 use mathlib.Core.Path.{ap, ap₂, fun_ext, refl, subst, sym, ◌∙◌, ◌≡◌}
-use Prim.{Unit}
 use Prim.Native.Nat.{◌*◌, ◌/◌, ◌<◌, ℕ, ◌≤◌}
 use native.Mathlib.Omega.{arith}
 use lib.ListN.{drop, get_or, length, take}
@@ -20,12 +19,11 @@ use Rattle.comparison.proofs.NumberOrder.{choice-lt}
 use Rattle.comparison.specs.Choices.{LeastChoice, least_code, least_number, no_choice}
 use Rattle.comparison.specs.Compared.{induced, pair_lines}
 use Rattle.cut.proofs.Counting.{count-upto}
-use Rattle.record.specs.Graph.{Simple, complement}
+use Rattle.record.specs.Graph.{Simple}
 use Rattle.image.proofs.Exactly.{same-leads}
 use Rattle.image.proofs.TrackedBits.{image-length}
 use Rattle.image.specs.Rule.{image_list}
 use Rattle.pauli.specs.Pauli.{Pauli}
-use Rattle.record.proofs.ComplementLists.{each_seen}
 use Rattle.record.proofs.ReducedRecords.{reduced-is}
 use Rattle.record.specs.Records.{GraphRecord, complement_all, complement_record}
 use Rattle.record.specs.Reduced.{reduced_graph}
@@ -52,8 +50,8 @@ use Rattle.claims.specs.ThirdDemand.{
 -- a record complemented along a list has the graph complemented along it
 pub graph-each : (r : GraphRecord) (vs : List ℕ) (i j : ℕ) →
     complement_each r.graph vs i j ≡ (complement_all r vs).graph i j
-graph-each r vs i j = ap (λ θ. θ i j) (sym (each_seen complement_record (λ s. Unit) (λ s h v. tt) complement
-    (λ s. s.graph) (λ s h v. refl) r tt vs))
+graph-each r [] i j = refl
+graph-each r (v ∷ vs) i j = graph-each (complement_record r v) vs i j
 
 -- at most 3n/2, rounded down
 pub half : (a b : ℕ) → 2 * a ≤ b → a ≤ b / 2

@@ -1,9 +1,7 @@
 -- Which calls are accepted, in the documents' words: the number of each exported function is 0 exactly if its arguments
--- fit. Of sukhlent_run claims/specs/RunDemand says it, of sukhlent_compare_records claims/specs/RecordPairs, of
--- sukhlent_equivalent and sukhlent_equivalent_records claims/specs/Equivalents, of sukhlent_observe and sukhlent_renew
--- claims/specs/Sources, of sukhlent_measure_row claims_parity/specs/Parities, of sukhlent_group_observe and
--- sukhlent_group_renew claims_parties/specs/Sentences/Parties, of sukhlent_write_record and sukhlent_read_record
--- claims/specs/RecordTexts.
+-- fit. Of sukhlent_run claims/specs/RunDemand says it, of sukhlent_compare_records
+-- claims/specs/RecordPairs, of sukhlent_observe and sukhlent_renew claims/specs/Sources, of sukhlent_write_record and
+-- sukhlent_read_record claims/specs/RecordTexts.
 use Rattle.claims.specs.families.Amplitudes.{AmplitudesAccepted}
 use Rattle.claims.specs.families.Comparisons.{ComparisonsAccepted}
 use Rattle.claims.specs.families.Expectations.{ExpectationsAccepted}

@@ -1,9 +1,8 @@
--- The actions of a session are the exported calls: what the contract of each says is the action (02, §5, §12).
+-- The actions of a session_of are the exported calls: what the contract of each says is the action (02, §5, §12).
 use Rattle.std.specs.Prelude.{List, ◌≡◌, ◌%◌, ◌+◌, ◌/◌, ℕ, length, take}
 use Rattle.calls.specs.InPlace.{used_call, used_measure_call}
 use Rattle.calls.specs.Sources.{observe_call, renew_call}
 use Rattle.calls.specs.Stores.{forget_call, return_call, save_call}
-use Rattle.calls.specs.Asked.{lent_outcome, pauli_asked}
 use Rattle.buffers.specs.Calls.{Call}
 use Rattle.jobs.specs.declared.Op.{Op}
 use Rattle.jobs.specs.declared.Op.TheVariants.{Complement, Cz, Gate, Measure, Observe, Renew}
@@ -69,21 +68,18 @@ pub record ContractsAreActions : Type 0 where
       StepLeaves u (step_with Complement a 0 0) (left_used u nb' cs' u.used)
   pub measure : (u : UsedRecord) (pauli q b answer determined r : ℕ) (nb' cs' : List ℕ)
       (used' answer' determined' : ℕ) →
-      Call (used_measure_call u (pauli_asked pauli q b) (lent_outcome answer determined)
-      (used_record u.held.n nb' cs' used') (lent_outcome answer' determined')) r →
+      Call (used_measure_call u pauli q b answer determined nb' cs' used' answer' determined') r →
       MeasureLeaves u pauli q b (left_used u nb' cs' used')
   pub observe : (u : UsedRecord) (pauli q b answer determined r : ℕ) (nb' cs' : List ℕ)
       (used' answer' determined' : ℕ) →
-      Call (observe_call u (pauli_asked pauli q b) (lent_outcome answer determined)
-      (used_record u.held.n nb' cs' used') (lent_outcome answer' determined')) r →
+      Call (observe_call u pauli q b answer determined nb' cs' used' answer' determined') r →
       ObserveLeaves u pauli q b (left_used u nb' cs' used')
   pub renew : (u : UsedRecord) (q k r : ℕ) (nb' cs' : List ℕ) (used' : ℕ) → Call (renew_call u q k nb' cs' used') r →
       StepLeaves u (step_with Renew q 0 k) (left_used u nb' cs' used')
   pub save : (u : UsedRecord) (name : ℕ) (st : Store) (r : ℕ) (heads' nb' cs' : List ℕ) →
       Call (save_call u name st heads' nb' cs') r → SaveLeaves u name st heads' nb' cs'
   pub return-to : (name : ℕ) (st : Store) (n : ℕ) (nb cs : List ℕ) (used n' : ℕ) (nb' cs' : List ℕ) (used' r : ℕ) →
-      length nb ≡ 64 → length cs ≡ 64 → Call (return_call name st (used_record n nb cs used)
-      (used_record n' nb' cs' used')) r →
+      length nb ≡ 64 → length cs ≡ 64 → Call (return_call name st n nb cs used n' nb' cs' used') r →
       ReturnLeaves name st n' nb' cs' used' r
   pub forget : (name : ℕ) (st : Store) (r : ℕ) (heads' : List ℕ) → Call (forget_call name st heads') r →
       ForgetLeaves name st heads'

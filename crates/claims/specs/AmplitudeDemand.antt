@@ -17,7 +17,7 @@ use Rattle.amplitude.specs.Vectors.{
   amplitudes,
   none,
 }
-use Rattle.calls.specs.Amplitudes.{amplitude_call, lent_plot}
+use Rattle.calls.specs.Amplitudes.{amplitude_call}
 use Rattle.buffers.specs.Calls.{Call}
 use Rattle.cut.specs.Rank.{rank}
 use Rattle.pauli.specs.Pauli.{Pauli}
@@ -39,8 +39,7 @@ pub record AmplitudeDemand (n : ℕ) (R : ℕ → Pauli) : Type 0 where
 -- whatever numbers a state is written with, complex ones among them: of every accepted call
 abbrev pub StatesAreMultiples : Type 1
 StatesAreMultiples = (u : UsedRecord) (y re im p re' im' p' : ℕ) →
-    Call (amplitude_call u y (lent_plot re im p) (lent_plot re' im' p')) 0 →
-    OnlyVectorOver u.held.n (held_rows u.held)
+    Call (amplitude_call u y re im p re' im' p') 0 → OnlyVectorOver u.held.n (held_rows u.held)
 
 -- the float that 64 bits hold
 abbrev pub float_in : ℕ → Float
@@ -66,5 +65,5 @@ pub record AmplitudeAnswer (n : ℕ) (R : ℕ → Pauli) (y : ℕ) (re im p : Fl
 -- of every accepted call
 abbrev pub AmplitudesAnswer : Type 0
 AmplitudesAnswer = (u : UsedRecord) (y re im p re' im' p' : ℕ) →
-    Call (amplitude_call u y (lent_plot re im p) (lent_plot re' im' p')) 0 →
+    Call (amplitude_call u y re im p re' im' p') 0 →
     AmplitudeAnswer u.held.n (held_rows u.held) y (float_in re') (float_in im') (float_in p')

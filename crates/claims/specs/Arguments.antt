@@ -25,7 +25,8 @@ pub record IsList (l : GeneratorList) : Type 0 where
   pub proper : Proper l.n (rows l)
 
 -- a record with its word of used qubits: no bit at or above n; "A used vertex has no neighbour, and its code is 0, 2,
--- 4, 6, 8 or 10" (02, §8)
+-- 4,
+-- 6, 8 or 10" (02, §8)
 pub record IsRecord (u : UsedRecord) : Type 0 where
   pub held : AcceptedRecord u.held
   pub below : u.used < 2 ^ u.held.n

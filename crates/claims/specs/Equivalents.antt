@@ -3,7 +3,7 @@
 use Rattle.std.specs.Prelude.{false, ◌++◌, List, [], ◌∷◌, ◌↔◌, ◌⊎◌, ◌≡◌, ℕ, length}
 use Rattle.buffers.specs.Refusals.{first_fitting}
 use Rattle.buffers.specs.Sentences.{FirstTrue, Sentence, sentence}
-use Rattle.calls.specs.Comparisons.{compare_call, lent_choice}
+use Rattle.calls.specs.Comparisons.{compare_call}
 use Rattle.calls.specs.Equivalences.{equivalent_call, equivalent_records_call, equivalent_records_lines}
 use Rattle.calls.specs.RecordComparisons.{compare_records_call, record_large_part, records_lines}
 use Rattle.claims.specs.Arguments.{IsList}
@@ -24,31 +24,30 @@ use Rattle.stabilizer.specs.Lists.{GeneratorList, rows}
 abbrev pub ThirdDemandTo64 : Type 0
 ThirdDemandTo64 =
     (l m : GeneratorList) (choice list : List ℕ) (count r : ℕ) (choice' list' : List ℕ) (count' : ℕ) →
-    Call (equivalent_call l m (lent_choice choice list count) (lent_choice choice' list' count')) r →
-    AcceptedPair l m choice list →
+    Call (equivalent_call l m choice list count choice' list' count') r → AcceptedPair l m choice list →
     Decided l m list r choice' list' count'
 
 -- 3 never comes back
 abbrev pub NeverTooLarge : Type 0
 NeverTooLarge =
     (l m : GeneratorList) (choice list : List ℕ) (count r : ℕ) (choice' list' : List ℕ) (count' : ℕ) →
-    Call (equivalent_call l m (lent_choice choice list count) (lent_choice choice' list' count')) r → r ≡ 3 → ⊥
+    Call (equivalent_call l m choice list count choice' list' count') r → r ≡ 3 → ⊥
 
 -- where no part is larger than 20: what one call answers, number and buffers, the other answers, for all arguments
 abbrev pub SameWhereSmall : Type 0
 SameWhereSmall =
     (l m : GeneratorList) (choice list : List ℕ) (count r : ℕ) (choice' list' : List ℕ) (count' : ℕ) →
     SmallParts l → SmallParts m →
-    Call (compare_call l m (lent_choice choice list count) (lent_choice choice' list' count')) r
-    ↔ Call (equivalent_call l m (lent_choice choice list count) (lent_choice choice' list' count')) r
+    Call (compare_call l m choice list count choice' list' count') r
+    ↔ Call (equivalent_call l m choice list count choice' list' count') r
 
 -- .. and of two records
 abbrev pub SameRecordsWhereSmall : Type 0
 SameRecordsWhereSmall =
     (l m : LentRecord) (choice list : List ℕ) (count r : ℕ) (choice' list' : List ℕ) (count' : ℕ) →
     record_large_part l ≡ false → record_large_part m ≡ false →
-    Call (compare_records_call l m (lent_choice choice list count) (lent_choice choice' list' count')) r
-    ↔ Call (equivalent_records_call l m (lent_choice choice list count) (lent_choice choice' list' count')) r
+    Call (compare_records_call l m choice list count choice' list' count') r
+    ↔ Call (equivalent_records_call l m choice list count choice' list' count') r
 
 -- what a buffer lent only for the answer holds makes no line true
 abbrev pub EquivalentBuffersUnread : Type 0
@@ -87,13 +86,12 @@ equivalent_records_sentences l m choice list =
 -- is larger than 20 the answer of sukhlent_compare
 pub record EquivalentSays (l m : GeneratorList) (choice list : List ℕ) (count : ℕ) (choice' list' : List ℕ)
     (count' r : ℕ) : Type 0 where
-  pub answered : Answered (equivalent_call l m (lent_choice choice list count) (lent_choice choice' list' count')) r
+  pub answered : Answered (equivalent_call l m choice list count choice' list' count') r
   pub accepted : (r ≡ 0) ↔ EquivalentFits l m choice list
   pub numbers : FirstTrue (equivalent_sentences l m choice list) r
   pub to-64 : AcceptedPair l m choice list → Decided l m list r choice' list' count'
   pub never-3 : r ≡ 3 → ⊥
-  pub same : SmallParts l → SmallParts m → Call (compare_call l m (lent_choice choice list count)
-      (lent_choice choice' list' count')) r
+  pub same : SmallParts l → SmallParts m → Call (compare_call l m choice list count choice' list' count') r
 
 -- two records whose expansions sukhlent_equivalent accepts
 pub record EquivalentRecordsFits (l m : LentRecord) (choice list : List ℕ) : Type 0 where
@@ -106,18 +104,16 @@ pub record EquivalentRecordsFits (l m : LentRecord) (choice list : List ℕ) : T
 -- and where no part is larger than 20 the answer of sukhlent_compare_records
 pub record EquivalentRecordsSays (l m : LentRecord) (choice list : List ℕ) (count : ℕ) (choice' list' : List ℕ)
     (count' r : ℕ) : Type 0 where
-  pub answered : Answered (equivalent_records_call l m (lent_choice choice list count)
-      (lent_choice choice' list' count')) r
+  pub answered : Answered (equivalent_records_call l m choice list count choice' list' count') r
   pub accepted : (r ≡ 0) ↔ EquivalentRecordsFits l m choice list
   pub taken : AcceptedRecords l m choice list → (r ≡ 0) ⊎ (r ≡ 13)
   pub numbers : FirstTrue (equivalent_records_sentences l m choice list) r
   pub expanded : first_fitting (records_lines l m choice list) ≡ 0 →
-      Call (equivalent_call (expansion l) (expansion m) (lent_choice choice list count)
-      (lent_choice choice' list' count')) r
+      Call (equivalent_call (expansion l) (expansion m) choice list count choice' list' count') r
   pub to-64 : AcceptedRecords l m choice list → Decided (expansion l) (expansion m) list r choice' list' count'
   pub never-3 : r ≡ 3 → ⊥
   pub same : record_large_part l ≡ false → record_large_part m ≡ false →
-      Call (compare_records_call l m (lent_choice choice list count) (lent_choice choice' list' count')) r
+      Call (compare_records_call l m choice list count choice' list' count') r
 
 -- what is claimed of the calls
 pub record EquivalentsDemand : Type 0 where

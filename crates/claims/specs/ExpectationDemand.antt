@@ -5,7 +5,6 @@ use Rattle.std.specs.Prelude.{Bool, cond, false, not, true, List, ◌↔◌, ◌
 use Rattle.calls.specs.Expectations.{expectation_call}
 use Rattle.calls.specs.InPlace.{in_place_call, used_measure_call}
 use Rattle.calls.specs.Lists.{reduce_unused_call}
-use Rattle.calls.specs.Asked.{lent_outcome, pauli_asked}
 use Rattle.clifford.specs.Clifford.{clifford_of}
 use Rattle.clifford.specs.Vectors.{act, only}
 use Rattle.buffers.specs.Calls.{Call, Contract}
@@ -20,7 +19,7 @@ use Rattle.pauli.specs.Pauli.{Pauli, anticommute, imaginary, signed_row, x_bit, 
 use Rattle.record.specs.Lent.{held_rows, LentRecord, lent_record}
 use Rattle.stabilizer.specs.Groups.{InGroup, Within}
 use Rattle.stabilizer.specs.Lists.{GeneratorList, rows}
-use Rattle.operations.specs.Used.{UsedRecord, used_record}
+use Rattle.operations.specs.Used.{UsedRecord}
 use Rattle.words.specs.Bits.{digit, is_odd}
 use Rattle.claims.specs.PivotSteps.{pivot_step}
 
@@ -70,8 +69,7 @@ abbrev pub MeasurementsAgree : Type 0
 MeasurementsAgree =
     (u : UsedRecord) (pauli q b answer determined : ℕ) (nb' cs' : List ℕ) (used' answer' determined' value value' : ℕ) →
     Call (letter_call u pauli q value value') 0 →
-    Call (used_measure_call u (pauli_asked pauli q b) (lent_outcome answer determined)
-    (used_record u.held.n nb' cs' used') (lent_outcome answer' determined')) 0 →
+    Call (used_measure_call u pauli q b answer determined nb' cs' used' answer' determined') 0 →
     MeasurementAgrees value' answer' determined'
 
 -- 14, "a determined outcome contradicts the supplied bit": the value is the sign that the bit does not have
@@ -79,8 +77,7 @@ abbrev pub ContradictionsAgree : Type 0
 ContradictionsAgree =
     (u : UsedRecord) (pauli q b answer determined : ℕ) (nb' cs' : List ℕ) (used' answer' determined' value value' : ℕ) →
     Call (letter_call u pauli q value value') 0 →
-    Call (used_measure_call u (pauli_asked pauli q b) (lent_outcome answer determined)
-    (used_record u.held.n nb' cs' used') (lent_outcome answer' determined')) 14 →
+    Call (used_measure_call u pauli q b answer determined nb' cs' used' answer' determined') 14 →
     value' ≡ digit (not (is_odd b))
 
 -- ---- "a gate, CZ, complement or reduction of the record changes the answer as it changes the row"

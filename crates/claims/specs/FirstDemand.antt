@@ -1,10 +1,9 @@
 -- Demand 1, of every public call: "A call that is accepted, on any words, codes, signs and qubit numbers, ends with a
 -- complete answer .. A call that is refused .. returns the first fitting number of the published list and changes no
 -- lent byte". That a call ends, and touches no other byte, is what a contract of the language means. Of sukhlent_run
--- claims/specs/RunDemand says it, of sukhlent_compare_records claims/specs/RecordPairs, of sukhlent_equivalent and
--- sukhlent_equivalent_records claims/specs/Equivalents, of sukhlent_observe and sukhlent_renew claims/specs/Sources, of
--- sukhlent_measure_row claims_parity/specs/Parities, of sukhlent_group_observe and sukhlent_group_renew
--- claims_parties/specs/Sentences/Parties, of sukhlent_write_record and sukhlent_read_record claims/specs/RecordTexts.
+-- claims/specs/RunDemand says it, of sukhlent_compare_records claims/specs/RecordPairs, of
+-- sukhlent_observe and sukhlent_renew claims/specs/Sources, of sukhlent_write_record and sukhlent_read_record
+-- claims/specs/RecordTexts.
 use Rattle.buffers.specs.Answers.{EveryCallAnswers}
 use Rattle.claims.specs.families.Amplitudes.{AmplitudesConform}
 use Rattle.claims.specs.families.Comparisons.{ComparisonBuffersUnread, ComparisonsConform}

@@ -1,5 +1,6 @@
 -- The generator: "The job text it writes must read back as the steps drawn"; the bytes "past the text keep their
--- values" (02, §6). Said of an accepted call: the call's number is 0, and text', size' are what is held at exit.
+-- values"
+-- (02, §6). Said of an accepted call: the call's number is 0, and text', size' are what is held at exit.
 use Rattle.std.specs.Prelude.{List, ◌≡◌, ℕ, ◌≤◌, drop, length, take}
 use Rattle.buffers.specs.Calls.{Call}
 use Rattle.calls.specs.Generation.{generate_call}

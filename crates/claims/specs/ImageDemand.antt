@@ -9,7 +9,7 @@ use Rattle.pauli.specs.Pauli.{Pauli, minus, scaled}
 use Rattle.record.specs.Lent.{LentRecord, held_record, held_rows, record_lines}
 use Rattle.stabilizer.specs.Groups.{SameGroup}
 use Rattle.buffers.specs.Calls.{Call}
-use Rattle.calls.specs.Images.{image_call, lent_image}
+use Rattle.calls.specs.Images.{image_call}
 use Rattle.claims.specs.ThirdDemand.{complement_each}
 
 -- the generators of a graph with "one minus sign bit per vertex"
@@ -45,7 +45,7 @@ pub record ImageDecided (l : LentRecord) (list : List ℕ) (r : ℕ) (image' sig
 abbrev pub ImagesFollow : Type 0
 ImagesFollow =
     (l : LentRecord) (image signs list : List ℕ) (count r : ℕ) (image' signs' list' : List ℕ) (count' : ℕ) →
-    Call (image_call l (lent_image image signs list count) (lent_image image' signs' list' count')) r →
+    Call (image_call l image signs list count image' signs' list' count') r →
     first_fitting (record_lines l (other_than l.n image
     || (other_than l.n signs || other_than 96 list)) false) ≡ 0 →
     ImageDecided l list r image' signs' list' count'

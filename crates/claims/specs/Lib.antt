@@ -26,7 +26,6 @@ pub mod SecondDemand
 pub mod Sentences
 pub mod SessionDemand
 pub mod Sources
-pub mod StepSentences
 pub mod StoreDemand
 pub mod StringsDemand
 pub mod ThirdDemand

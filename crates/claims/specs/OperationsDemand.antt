@@ -13,14 +13,13 @@ use Rattle.operations.specs.Gates.{gated}
 use Rattle.operations.specs.Measurement.{Measured, pauli_letter, single}
 use Rattle.operations.specs.Steps.{Operation, complement_of, cz_on, gate_with, measurement_of}
 use Rattle.pauli.specs.Pauli.{Pauli}
-use Rattle.record.specs.Lent.{LentRecord, code_numbers, held_record, held_rows, lent_record, neighbour_words}
+use Rattle.record.specs.Lent.{LentRecord, code_numbers, held_record, held_rows, neighbour_words}
 use Rattle.record.specs.Records.{GraphRecord, SameRecord, complement_record, rows_of}
 use Rattle.record.specs.Reduced.{reduced}
 use Rattle.stabilizer.specs.Carries.{Carries}
 use Rattle.stabilizer.specs.Groups.{InGroup, SameGroup}
 use Rattle.calls.specs.InPlace.{in_place_call, measure_call, used_call, used_measure_call}
-use Rattle.calls.specs.Asked.{lent_outcome, pauli_asked}
-use Rattle.operations.specs.Used.{UsedRecord, used_arguments_of, used_record, used_step}
+use Rattle.operations.specs.Used.{UsedRecord, used_arguments_of, used_step}
 use Rattle.words.specs.Bits.{is_odd}
 
 -- "All three answer the reduced record of the new group"
@@ -83,8 +82,7 @@ pub record MeasurementStands (l : LentRecord) (pauli q b : ℕ) (after : LentRec
 abbrev pub MeasurementsFollow : Type 0
 MeasurementsFollow =
     (l : LentRecord) (pauli q b answer determined : ℕ) (nb' cs' : List ℕ) (answer' determined' : ℕ) →
-    Call (measure_call l (pauli_asked pauli q b) (lent_outcome answer determined) (lent_record l.n nb' cs')
-    (lent_outcome answer' determined')) 0 →
+    Call (measure_call l pauli q b answer determined nb' cs' answer' determined') 0 →
     MeasurementStands l pauli q b (left l nb' cs') answer' determined'
 
 -- ---- contradicted outcomes: "where bit and sign differ, the call is refused and the record kept" (02, §4)
@@ -102,8 +100,7 @@ pub record OutcomeContradicted (u : UsedRecord) (pauli q b answer determined r :
 abbrev pub ContradictionsRefused : Type 0
 ContradictionsRefused =
     (u : UsedRecord) (pauli q b answer determined r : ℕ) (nb' cs' : List ℕ) (used' answer' determined' : ℕ) →
-    Call (used_measure_call u (pauli_asked pauli q b) (lent_outcome answer determined)
-    (used_record u.held.n nb' cs' used') (lent_outcome answer' determined')) r →
+    Call (used_measure_call u pauli q b answer determined nb' cs' used' answer' determined') r →
     OutcomeContradicted u pauli q b answer determined r nb' cs' used' answer' determined'
 
 -- ---- "As a rewriting of a record it keeps the group, and the answer is the record so rewritten, not reduced"
@@ -130,10 +127,8 @@ abbrev pub SecondAboutMeasured : Type 0
 SecondAboutMeasured =
     (u : UsedRecord) (pauli₁ q₁ b₁ answer₁ determined₁ r₁ pauli₂ q₂ b₂ answer₂ determined₂ r₂ : ℕ)
     (nb₁ cs₁ nb₂ cs₂ : List ℕ) (used₁ answer₁' determined₁' used₂ answer₂' determined₂' : ℕ) →
-    Call (used_measure_call u (pauli_asked pauli₁ q₁ b₁) (lent_outcome answer₁ determined₁)
-    (used_record u.held.n nb₁ cs₁ used₁) (lent_outcome answer₁' determined₁')) r₁ →
-    Call (used_measure_call (record { held = left u.held nb₁ cs₁; used = used₁ }) (pauli_asked pauli₂ q₂ b₂)
-    (lent_outcome answer₂ determined₂) (used_record u.held.n nb₂ cs₂ used₂)
-    (lent_outcome answer₂' determined₂')) r₂ →
+    Call (used_measure_call u pauli₁ q₁ b₁ answer₁ determined₁ nb₁ cs₁ used₁ answer₁' determined₁') r₁ →
+    Call (used_measure_call (record { held = left u.held nb₁ cs₁; used = used₁ })
+    pauli₂ q₂ b₂ answer₂ determined₂ nb₂ cs₂ used₂ answer₂' determined₂') r₂ →
     record { held = left u.held nb₂ cs₂; used = used₂ }
     ≡ (used_step (used_step u (measurement_of pauli₁ q₁ b₁)).after (measurement_of pauli₂ q₂ b₂)).after

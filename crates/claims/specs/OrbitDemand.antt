@@ -5,7 +5,7 @@ use Rattle.std.specs.Prelude.{List, ◌↔◌, ◌≡◌, ◌<◌, ◌^◌, ◌�
 use Rattle.buffers.specs.Refusals.{first_fitting}
 use Rattle.calls.specs.Orbits.{orbit_call, orbit_lines}
 use Rattle.clifford.specs.Clifford.{clifford_of}
-use Rattle.calls.specs.Comparisons.{compare_call, lent_choice}
+use Rattle.calls.specs.Comparisons.{compare_call}
 use Rattle.buffers.specs.Calls.{Call}
 use Rattle.record.specs.Graph.{Graph, Simple}
 use Rattle.record.specs.NeighbourWords.{graph_in}
@@ -58,6 +58,5 @@ SameListExactly = (l m : GeneratorList) (first second list : List ℕ) (count : 
     Call (orbit_call l.n first list count list' count') 0 → first_fitting (orbit_lines l.n second list) ≡ 0 →
     Describes l (graph_in first) → Describes m (graph_in second) →
     (choice vertices : List ℕ) (size r : ℕ) (choice' vertices' : List ℕ) (size' : ℕ) →
-    AcceptedPair l m choice vertices → Call (compare_call l m (lent_choice choice vertices size)
-    (lent_choice choice' vertices' size')) r →
+    AcceptedPair l m choice vertices → Call (compare_call l m choice vertices size choice' vertices' size') r →
     On (take count' list') (graph_number l.n (graph_in second)) ↔ (r ≡ 0)

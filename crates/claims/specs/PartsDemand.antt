@@ -14,7 +14,7 @@ use Rattle.stabilizer.specs.Lists.{GeneratorList, rows}
 use Rattle.calls.specs.Lists.{check_lines}
 use Rattle.words.specs.Bits.{Word}
 use Rattle.buffers.specs.Calls.{Call}
-use Rattle.calls.specs.Comparisons.{compare_call, lent_choice}
+use Rattle.calls.specs.Comparisons.{compare_call}
 
 -- the connected part of vertex q in a list's reduced graph
 abbrev pub part : GeneratorList → ℕ → Word
@@ -60,8 +60,7 @@ PartsDecide = (l m : GeneratorList) → AcceptedLists l m → ((q t : ℕ) → p
 abbrev pub LargePartsRefused : Type 0
 LargePartsRefused =
     (l m : GeneratorList) (choice list : List ℕ) (counted r : ℕ) (choice' list' : List ℕ) (counted' : ℕ) →
-    Call (compare_call l m (lent_choice choice list counted) (lent_choice choice' list' counted')) r →
-    first_fitting (pair_lines l m choice list) ≡ 0 →
+    Call (compare_call l m choice list counted choice' list' counted') r → first_fitting (pair_lines l m choice list) ≡ 0 →
     (r ≡ 3) ↔ (LargePart l ⊎ LargePart m)
 
 -- the two sentences of the call itself
@@ -77,5 +76,4 @@ pub record DecidedByParts (l m : GeneratorList) (choice list : List ℕ) (r : �
 abbrev pub ComparedByParts : Type 0
 ComparedByParts =
     (l m : GeneratorList) (choice list : List ℕ) (counted r : ℕ) (choice' list' : List ℕ) (counted' : ℕ) →
-    Call (compare_call l m (lent_choice choice list counted) (lent_choice choice' list' counted')) r →
-    DecidedByParts l m choice list r
+    Call (compare_call l m choice list counted choice' list' counted') r → DecidedByParts l m choice list r

@@ -3,7 +3,7 @@
 use Rattle.std.specs.Prelude.{false, true, ◌≡◌, ◌<◌, ◌^◌, suc, ℕ}
 use Rattle.buffers.specs.Calls.{Call}
 use Rattle.pauli.specs.Pauli.{Pauli, identity, mul, power, row}
-use Rattle.calls.specs.Products.{lent_product, product_call}
+use Rattle.calls.specs.Products.{product_call}
 use Rattle.stabilizer.specs.Lists.{GeneratorList, rows}
 use Rattle.words.specs.Bits.{Word, bit}
 
@@ -24,5 +24,4 @@ pub record ProductAnswer (l : GeneratorList) (chosen z' x' phase' : ℕ) : Type 
 -- of every accepted call
 abbrev pub ProductsAnswer : Type 0
 ProductsAnswer = (l : GeneratorList) (chosen z x phase z' x' phase' : ℕ) →
-    Call (product_call l chosen (lent_product z x phase) (lent_product z' x' phase')) 0 →
-    ProductAnswer l chosen z' x' phase'
+    Call (product_call l chosen z x phase z' x' phase') 0 → ProductAnswer l chosen z' x' phase'

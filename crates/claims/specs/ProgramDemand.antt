@@ -3,7 +3,6 @@
 -- place that it answers; the program writes these.
 use Rattle.std.specs.Prelude.{List, ◌↔◌, ◌⊎◌, ◌≡◌, ◌<◌, ℕ, ◌≤◌, get_or, length, take}
 use Rattle.buffers.specs.Refusals.{first_fitting}
-use Rattle.buffers.specs.Sentences.{FirstTrue}
 use Rattle.jobs.specs.Answer.{JobResponse, results_of}
 use Rattle.jobs.specs.Results.{Result, job_answer}
 use Rattle.jobs.specs.Text.{HasJobForm, JobTextOf}
@@ -25,7 +24,6 @@ use Rattle.text.specs.Text.{HasForm, ListLine, TextOf, record_text, refused_text
 use Rattle.operations.specs.Used.{UsedRecord}
 use Rattle.words.specs.Bits.{is_odd}
 use Rattle.claims.specs.OperationsDemand.{IsReduced}
-use Rattle.claims.specs.StepSentences.{step_sentences}
 
 -- ---- `reduce`
 -- the reduced record of a list, in buffers
@@ -97,8 +95,6 @@ RequestOutcomeIs G (renewal_of q k) v = v ≡ 0
 pub record LineSays (u : UsedRecord) (G : Pauli → Type 0) (s : Step) (r : Result) : Type 0 where
   -- the step's number, which is not 0 exactly if the fields or the group refuse the step
   pub number : r.refusal ≡ number_of u s
-  -- in words: that of the first line of its call that is true
-  pub in_words : FirstTrue (step_sentences u s) r.refusal
   pub refused : (r.refusal ≡ 0 → ⊥) ↔ Refused u G s
   -- determined is 1 exactly if the step is an accepted measurement and the Pauli or its negative is in the group
   pub either : (r.determined ≡ 0) ⊎ (r.determined ≡ 1)

@@ -2,7 +2,7 @@
 -- records' expansions, and so demand 3.
 use Rattle.std.specs.Prelude.{false, ◌++◌, List, [], ◌∷◌, ◌↔◌, ◌⊎◌, ◌≡◌, ◌<◌, ℕ, ◌≤◌, length}
 use Rattle.buffers.specs.Refusals.{first_fitting}
-use Rattle.calls.specs.Comparisons.{compare_call, lent_choice}
+use Rattle.calls.specs.Comparisons.{compare_call}
 use Rattle.calls.specs.RecordComparisons.{compare_records_call, compare_records_lines, records_lines}
 use Rattle.claims.specs.Conforming.{Answered, Conforms}
 use Rattle.claims.specs.PartsDemand.{LargePart, SmallParts}
@@ -29,7 +29,7 @@ expansion l = list_of l.n (held_rows l)
 abbrev pub RecordComparisonsConform : Type 0
 RecordComparisonsConform =
     (l m : LentRecord) (choice list : List ℕ) (count : ℕ) (choice' list' : List ℕ) (count' : ℕ) →
-    Conforms (compare_records_call l m (lent_choice choice list count) (lent_choice choice' list' count'))
+    Conforms (compare_records_call l m choice list count choice' list' count')
 
 -- what a buffer lent only for the answer holds makes no line true
 abbrev pub RecordComparisonBuffersUnread : Type 0
@@ -48,7 +48,7 @@ pub record CompareRecordsFits (l m : LentRecord) (choice list : List ℕ) : Type
 abbrev pub RecordComparisonsAccepted : Type 0
 RecordComparisonsAccepted =
     (l m : LentRecord) (choice list : List ℕ) (count : ℕ) (choice' list' : List ℕ) (count' r : ℕ) →
-    Call (compare_records_call l m (lent_choice choice list count) (lent_choice choice' list' count')) r →
+    Call (compare_records_call l m choice list count choice' list' count') r →
     (r ≡ 0) ↔ CompareRecordsFits l m choice list
 
 -- ---- the same answer as on the expansions
@@ -58,9 +58,8 @@ abbrev pub SameOnExpansions : Type 0
 SameOnExpansions =
     (l m : LentRecord) (choice list : List ℕ) (count : ℕ) (choice' list' : List ℕ) (count' r : ℕ) →
     first_fitting (records_lines l m choice list) ≡ 0 →
-    Call (compare_records_call l m (lent_choice choice list count) (lent_choice choice' list' count')) r
-    ↔ Call (compare_call (expansion l) (expansion m) (lent_choice choice list count)
-    (lent_choice choice' list' count')) r
+    Call (compare_records_call l m choice list count choice' list' count') r
+    ↔ Call (compare_call (expansion l) (expansion m) choice list count choice' list' count') r
 
 -- what is claimed of the call for all arguments
 pub record RecordPairsDemand : Type 0 where
@@ -99,14 +98,12 @@ compare_records_sentences l m choice list =
 -- ---- sukhlent_compare_records, in one record
 pub record CompareRecordsSays (l m : LentRecord) (choice list : List ℕ) (count : ℕ) (choice' list' : List ℕ)
     (count' r : ℕ) : Type 0 where
-  pub answered : Answered (compare_records_call l m (lent_choice choice list count)
-      (lent_choice choice' list' count')) r
+  pub answered : Answered (compare_records_call l m choice list count choice' list' count') r
   pub accepted : (r ≡ 0) ↔ CompareRecordsFits l m choice list
   pub numbers : FirstTrue (compare_records_sentences l m choice list) r
   -- the answer of `compare` on the expansions
   pub same : first_fitting (records_lines l m choice list) ≡ 0 →
-      Call (compare_call (expansion l) (expansion m) (lent_choice choice list count)
-      (lent_choice choice' list' count')) r
+      Call (compare_call (expansion l) (expansion m) choice list count choice' list' count') r
   -- such records are taken, or refused by 3 or 13
   pub taken : AcceptedRecords l m choice list → (r ≡ 0) ⊎ ((r ≡ 3) ⊎ (r ≡ 13))
   -- demand 3 word for word, "n from 1 to 20": without a hypothesis on parts

@@ -34,7 +34,7 @@ record_read n' nb' cs' used' =
 -- leaves the record
 abbrev pub RecordComesBack : UsedRecord → List ℕ → Type 0
 RecordComesBack u t = (n : ℕ) (nb cs : List ℕ) (used n' : ℕ) (nb' cs' : List ℕ) (used' r : ℕ) → length nb ≡ 64 →
-    length cs ≡ 64 → Call (read_record_call t (used_record n nb cs used) (used_record n' nb' cs' used')) r →
+    length cs ≡ 64 → Call (read_record_call t n nb cs used n' nb' cs' used') r →
     (r ≡ 0) × (record_read n' nb' cs' used' ≡ u)
 
 -- sukhlent_write_record, in one record
@@ -69,7 +69,7 @@ RecordTextComesBack t u = (text : List ℕ) (size : ℕ) (text' : List ℕ) (siz
 -- sukhlent_read_record, in one record
 pub record ReadRecordSays (t : List ℕ) (n : ℕ) (nb cs : List ℕ) (used n' : ℕ) (nb' cs' : List ℕ) (used' r : ℕ)
     : Type 0 where
-  pub answered : Answered (read_record_call t (used_record n nb cs used) (used_record n' nb' cs' used')) r
+  pub answered : Answered (read_record_call t n nb cs used n' nb' cs' used') r
   pub accepted : (r ≡ 0) ↔ ReadRecordFits t nb cs
   pub numbers : FirstTrue (read_record_sentences t nb cs) r
   -- what is read is a record, and the text is its print
@@ -83,10 +83,9 @@ pub record RecordTextsDemand : Type 0 where
   -- "one record has one text": accepted texts that are read as one record are one text
   pub one-text : (t s : List ℕ) (n : ℕ) (nb cs : List ℕ) (used m : ℕ) (nb₂ cs₂ : List ℕ) (used₂ n' : ℕ)
       (nb' cs' : List ℕ)
-      (used' : ℕ) (nb'' cs'' : List ℕ) → Call (read_record_call t (used_record n nb cs used)
-      (used_record n' nb' cs' used')) 0 →
-      Call (read_record_call s (used_record m nb₂ cs₂ used₂) (used_record n' nb'' cs'' used')) 0 →
-      record_read n' nb' cs' used' ≡ record_read n' nb'' cs'' used' →
+      (used' : ℕ) (nb'' cs'' : List ℕ) → Call (read_record_call t n nb cs used n' nb' cs' used') 0 →
+      Call (read_record_call s m nb₂ cs₂ used₂ n' nb'' cs'' used') 0 → record_read n' nb' cs' used' ≡ record_read n' nb'' cs''
+      used' →
       t ≡ s
   -- and accepted records with one text are one record
   pub one-record : (u v : UsedRecord) (a b : List ℕ) (i j : ℕ) (a' b' : List ℕ) (i' j' : ℕ) →

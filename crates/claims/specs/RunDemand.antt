@@ -16,7 +16,7 @@ use Rattle.jobs.specs.Standing.{StandsFor, left}
 use Rattle.pauli.specs.Pauli.{Pauli}
 use Rattle.record.specs.Lent.{held_rows}
 use Rattle.stabilizer.specs.Groups.{InGroup}
-use Rattle.operations.specs.Used.{UsedRecord, UsedUnrefused, used_record}
+use Rattle.operations.specs.Used.{UsedRecord, UsedUnrefused}
 use Rattle.buffers.specs.Sentences.{FirstTrue, Sentence, SomeAbove, sentence}
 use Rattle.record.specs.RecordSentences.{CodeAbove23, RecordMisfits}
 use Rattle.operations.specs.UsedSentences.{StrayBit, used_sentences}
@@ -68,7 +68,8 @@ pub record RunStands (u : UsedRecord) (G : Pauli → Type 0) (s : LentSteps) (ne
   -- the record that it leaves stands for the group after all steps, "refused steps counting as no change"
   pub group : StandsFor (record { held = left u.held neighbours' codes'; used = used' }) (GroupAfter u G (steps_of s))
   -- what is answered of step k is about the group after the first k steps: its refusal; its determined, 1 exactly if
-  -- "the Pauli or its negative is in the group"; and its outcome
+  -- "the
+  -- Pauli or its negative is in the group"; and its outcome
   pub steps : (k : ℕ) → k < length s.ops →
       LineSays (run u (take k (steps_of s))) (GroupAfter u G (take k (steps_of s)))
       (step_in s.ops s.a s.b s.value k) (answer_in refusals' outcomes' determined' k)
@@ -76,8 +77,7 @@ pub record RunStands (u : UsedRecord) (G : Pauli → Type 0) (s : LentSteps) (ne
 -- sukhlent_run: demand 1; which arguments it accepts; and the record and the answers, about the record's own group
 pub record RunSays (u : UsedRecord) (s : LentSteps) (neighbours' codes' : List ℕ) (used' : ℕ)
     (refusals' outcomes' determined' : List ℕ) (r : ℕ) : Type 0 where
-  pub answered : Answered (run_call u s (used_record u.held.n neighbours' codes' used') refusals' outcomes'
-      determined') r
+  pub answered : Answered (run_call u s neighbours' codes' used' refusals' outcomes' determined') r
   pub accepted : (r ≡ 0) ↔ RunFits u s
   pub numbers : FirstTrue (run_sentences u s) r
   -- every record that no line refuses is taken
@@ -97,18 +97,17 @@ pub record RunDemand : Type 1 where
   -- demand 1: its lines stand in the published order, and its answers fill their buffers
   pub conforms : (u : UsedRecord) (s : LentSteps) (neighbours' codes' : List ℕ) (used' : ℕ)
       (refusals' outcomes' determined' : List ℕ) →
-      Conforms (run_call u s (used_record u.held.n neighbours' codes' used') refusals' outcomes' determined')
+      Conforms (run_call u s neighbours' codes' used' refusals' outcomes' determined')
   pub unread : RunBuffersUnread
   pub accepted : (u : UsedRecord) (s : LentSteps) (neighbours' codes' : List ℕ) (used' : ℕ)
       (refusals' outcomes' determined' : List ℕ) (r : ℕ) →
-      Call (run_call u s (used_record u.held.n neighbours' codes' used') refusals' outcomes' determined') r →
-      (r ≡ 0) ↔ RunFits u s
+      Call (run_call u s neighbours' codes' used' refusals' outcomes' determined') r → (r ≡ 0) ↔ RunFits u s
   pub follows : (u : UsedRecord) (G : Group) → StandsFor u G → (s : LentSteps) (neighbours' codes' : List ℕ) (used' : ℕ)
       (refusals' outcomes' determined' : List ℕ) →
-      Call (run_call u s (used_record u.held.n neighbours' codes' used') refusals' outcomes' determined') 0 →
+      Call (run_call u s neighbours' codes' used' refusals' outcomes' determined') 0 →
       RunStands u G s neighbours' codes' used' refusals' outcomes' determined'
   -- of the record that a job starts from, the groups are those of `JobsStand`
   pub jobs : (n : ℕ) → 1 ≤ n → n ≤ 64 → (s : LentSteps) (neighbours' codes' : List ℕ) (used' : ℕ)
       (refusals' outcomes' determined' : List ℕ) →
-      Call (run_call (started n) s (used_record n neighbours' codes' used') refusals' outcomes' determined') 0 →
+      Call (run_call (started n) s neighbours' codes' used' refusals' outcomes' determined') 0 →
       RunStands (started n) (StartGroup n) s neighbours' codes' used' refusals' outcomes' determined'

@@ -21,10 +21,9 @@ use Rattle.operations.specs.Measurement.{
 use Rattle.operations.specs.Steps.{cz_on, gate_with}
 use Rattle.pauli.specs.Pauli.{Pauli}
 use Rattle.calls.specs.InPlace.{used_call, used_measure_call}
-use Rattle.calls.specs.Asked.{lent_outcome, pauli_asked}
 use Rattle.stabilizer.specs.Groups.{SameGroup}
 use Rattle.stabilizer.specs.Lists.{GeneratorList, list_of, rows}
-use Rattle.operations.specs.Used.{UsedRecord, used_record}
+use Rattle.operations.specs.Used.{UsedRecord}
 use Rattle.words.specs.Bits.{is_odd}
 use Rattle.claims.specs.Arguments.{Free}
 
@@ -102,8 +101,7 @@ pub record MeasuredByExpanding (u : UsedRecord) (pauli q b : ℕ) (nb' cs' : Lis
 abbrev pub MeasurementsByExpanding : Type 0
 MeasurementsByExpanding =
     (u : UsedRecord) (pauli q b answer determined : ℕ) (nb' cs' : List ℕ) (used' answer' determined' : ℕ) →
-    Call (used_measure_call u (pauli_asked pauli q b) (lent_outcome answer determined)
-    (used_record u.held.n nb' cs' used') (lent_outcome answer' determined')) 0 →
+    Call (used_measure_call u pauli q b answer determined nb' cs' used' answer' determined') 0 →
     MeasuredByExpanding u pauli q b nb' cs' answer' determined'
 
 -- ---- the number of a call whose arguments are in order: that of expanding the record into three buffers with n places
@@ -135,6 +133,5 @@ abbrev pub MeasureNumbersByExpanding : Type 0
 MeasureNumbersByExpanding =
     (u : UsedRecord) (pauli q b answer determined r : ℕ) (nb' cs' : List ℕ) (used' answer' determined' : ℕ) →
     1 ≤ pauli → pauli ≤ 3 → Free u q → b < 2 →
-    Call (used_measure_call u (pauli_asked pauli q b) (lent_outcome answer determined)
-    (used_record u.held.n nb' cs' used') (lent_outcome answer' determined')) r →
+    Call (used_measure_call u pauli q b answer determined nb' cs' used' answer' determined') r →
     MeasureNumberByExpanding u pauli q b r

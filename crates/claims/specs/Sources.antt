@@ -5,7 +5,6 @@ use Rattle.buffers.specs.Refusals.{Refusal, first_fitting, line}
 use Rattle.buffers.specs.Sentences.{FirstTrue, Sentence, sentence}
 use Rattle.calls.specs.InPlace.{used_measure_call}
 use Rattle.calls.specs.Sources.{observe_call, renew_call}
-use Rattle.calls.specs.Asked.{lent_outcome, pauli_asked}
 use Rattle.claims.specs.Arguments.{Free, IsRecord}
 use Rattle.claims.specs.Conforming.{Answered}
 use Rattle.claims.specs.OperationsDemand.{IsReduced, signed_pauli}
@@ -20,7 +19,7 @@ use Rattle.record.specs.Lent.{LentRecord, held_rows}
 use Rattle.record.specs.RecordSentences.{CodeAbove23, RecordMisfits}
 use Rattle.source.specs.Renewal.{Renewed, photon}
 use Rattle.stabilizer.specs.Groups.{InGroup, SameGroup}
-use Rattle.operations.specs.Used.{UsedRecord, used_code, used_lines, used_record}
+use Rattle.operations.specs.Used.{UsedRecord, used_code, used_lines}
 use Rattle.operations.specs.UsedSentences.{IsUsed, MeasureMisfits, OfSix, StrayBit, in_place_sentences, used_sentences}
 use Rattle.words.specs.Bits.{bit, is_odd}
 
@@ -60,18 +59,15 @@ observe_sentences u pauli q b =
 -- sukhlent_observe, in one record
 pub record ObserveSays (u : UsedRecord) (pauli q b answer determined : ℕ) (nb' cs' : List ℕ)
     (used' answer' determined' r : ℕ) : Type 0 where
-  pub answered : Answered (observe_call u (pauli_asked pauli q b) (lent_outcome answer determined)
-      (used_record u.held.n nb' cs' used') (lent_outcome answer' determined')) r
+  pub answered : Answered (observe_call u pauli q b answer determined nb' cs' used' answer' determined') r
   pub accepted : (r ≡ 0) ↔ ObserveFits u pauli q b
   pub numbers : FirstTrue (observe_sentences u pauli q b) r
   pub group : r ≡ 0 → ObservationStands u.held pauli q b (left u.held nb' cs') answer' determined'
   -- "where `measure` with the same bit is accepted, both answer and leave the same"
   pub same : MeasureFits u pauli q b →
-      Call (used_measure_call u (pauli_asked pauli q b) (lent_outcome answer determined)
-      (used_record u.held.n nb' cs' used') (lent_outcome answer' determined')) r
+      Call (used_measure_call u pauli q b answer determined nb' cs' used' answer' determined') r
   -- accepted, it is the measurement with the outcome that it answers
-  pub as-measured : r ≡ 0 → Call (used_measure_call u (pauli_asked pauli q answer') (lent_outcome answer determined)
-      (used_record u.held.n nb' cs' used') (lent_outcome answer' determined'))
+  pub as-measured : r ≡ 0 → Call (used_measure_call u pauli q answer' answer determined nb' cs' used' answer' determined')
       0
   -- "so it never gives 14"
   pub never-14 : r ≡ 14 → ⊥

@@ -52,8 +52,7 @@ pub record ReturnGives (name : ℕ) (st : Store) (nb cs : List ℕ) (n' : ℕ) (
 abbrev pub ReturnsGive : Type 0
 ReturnsGive =
     (name : ℕ) (st : Store) (n : ℕ) (nb cs : List ℕ) (used n' : ℕ) (nb' cs' : List ℕ) (used' : ℕ) →
-    Call (return_call name st (used_record n nb cs used) (used_record n' nb' cs' used')) 0 →
-    ReturnGives name st nb cs n' nb' cs' used'
+    Call (return_call name st n nb cs used n' nb' cs' used') 0 → ReturnGives name st nb cs n' nb' cs' used'
 
 -- ---- refusals
 -- 17, "a name to return to or forget is not held": exactly if no earlier line holds and nothing is held under the name

@@ -11,7 +11,8 @@ abbrev pub list_left : List ℕ → List ℕ → List ℕ → List ℕ → Gener
 list_left s s' z' x' = record { n = length s; signs = s'; z = z'; x = x' }
 
 -- "Lines of unequal length, a count of lines unlike the count of letters, other characters or a missing newline give
--- 1": 1 comes back exactly if the text is that of no list
+-- 1":
+-- 1 comes back exactly if the text is that of no list
 abbrev pub FormTold : List ℕ → ℕ → Type 0
 FormTold t r = (r ≡ 1) ↔ (HasStringForm t → ⊥)
 

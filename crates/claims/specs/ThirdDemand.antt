@@ -1,23 +1,24 @@
 -- Demand 3, of the public call that compares two generator lists.
-use Rattle.std.specs.Prelude.{List, ◌↔◌, ◌≡◌, ◌*◌, ◌/◌, ◌<◌, ℕ, ◌≤◌, drop, get_or, length, take}
+use Rattle.std.specs.Prelude.{List, [], ◌∷◌, ◌↔◌, ◌≡◌, ◌*◌, ◌/◌, ◌<◌, ℕ, ◌≤◌, drop, get_or, length, take}
 use Rattle.buffers.specs.Refusals.{first_fitting}
 use Rattle.clifford.specs.Clifford.{Clifford}
 use Rattle.clifford.specs.Vectors.{codes_of}
 use Rattle.comparison.specs.Choices.{LeastChoice}
 use Rattle.comparison.specs.Compared.{induced, pair_lines}
-use Rattle.record.specs.Graph.{Graph, at_each, complement}
+use Rattle.record.specs.Graph.{Graph, complement}
 use Rattle.image.specs.Rule.{image_list}
 use Rattle.record.specs.Reduced.{reduced_graph}
 use Rattle.stabilizer.specs.Carries.{Carries}
 use Rattle.stabilizer.specs.Lists.{GeneratorList, rows}
 use Rattle.calls.specs.Lists.{check_lines}
 use Rattle.buffers.specs.Calls.{Call}
-use Rattle.calls.specs.Comparisons.{compare_call, lent_choice}
+use Rattle.calls.specs.Comparisons.{compare_call}
 use Rattle.claims.specs.PartsDemand.{SmallParts}
 
 -- "Done one after another": the graph complemented at each vertex of a list
 abbrev pub complement_each : Graph → List ℕ → Graph
-complement_each = at_each complement
+complement_each θ [] = θ
+complement_each θ (v ∷ vs) = complement_each (complement θ v) vs
 
 -- "the list of local complementations that document 01's image rule makes", for a choice as a buffer holds it
 abbrev pub list_under : GeneratorList → GeneratorList → List ℕ → List ℕ
@@ -56,8 +57,7 @@ pub record Decided (l m : GeneratorList) (list : List ℕ) (r : ℕ) (choice' li
 abbrev pub ThirdDemand : Type 0
 ThirdDemand =
     (l m : GeneratorList) (choice list : List ℕ) (count r : ℕ) (choice' list' : List ℕ) (count' : ℕ) →
-    Call (compare_call l m (lent_choice choice list count) (lent_choice choice' list' count')) r →
-    first_fitting (pair_lines l m choice list) ≡ 0 →
+    Call (compare_call l m choice list count choice' list' count') r → first_fitting (pair_lines l m choice list) ≡ 0 →
     SmallParts l → SmallParts m → Decided l m list r choice' list' count'
 
 -- "if lists and buffers are accepted, and the lists describe states on the same number n of qubits"; an accepted list
@@ -79,6 +79,5 @@ NoLineHolds =
 abbrev pub ThirdDemandTo20 : Type 0
 ThirdDemandTo20 =
     (l m : GeneratorList) (choice list : List ℕ) (count r : ℕ) (choice' list' : List ℕ) (count' : ℕ) →
-    Call (compare_call l m (lent_choice choice list count) (lent_choice choice' list' count')) r →
-    AcceptedPair l m choice list → l.n ≤ 20 →
+    Call (compare_call l m choice list count choice' list' count') r → AcceptedPair l m choice list → l.n ≤ 20 →
     Decided l m list r choice' list' count'

@@ -4,11 +4,10 @@ use Rattle.std.specs.Prelude.{false, true, ◌||◌, List, ◌↔◌, ◌≢◌,
 use Rattle.buffers.specs.Refusals.{first_fitting}
 use Rattle.calls.specs.InPlace.{in_place_call, measure_call, used_call, used_measure_call}
 use Rattle.calls.specs.Lists.{reduce_unused_call}
-use Rattle.calls.specs.Asked.{lent_outcome, pauli_asked}
 use Rattle.buffers.specs.Calls.{Call}
 use Rattle.jobs.specs.Standing.{left}
 use Rattle.operations.specs.Steps.{Operation, lines_of, measurement_of}
-use Rattle.record.specs.Lent.{LentRecord, lent_record}
+use Rattle.record.specs.Lent.{LentRecord}
 use Rattle.stabilizer.specs.Lists.{GeneratorList}
 use Rattle.operations.specs.Used.{names_used, used_lines, used_lines_of, UsedRecord, used_record}
 use Rattle.operations.specs.UsedLaws.{UsedStay, earlier_lines}
@@ -45,8 +44,7 @@ pub record UsedMarked (u : UsedRecord) (pauli q b : ℕ) (nb' cs' : List ℕ) (u
 abbrev pub MeasurementsMark : Type 0
 MeasurementsMark =
     (u : UsedRecord) (pauli q b answer determined : ℕ) (nb' cs' : List ℕ) (used' answer' determined' : ℕ) →
-    Call (used_measure_call u (pauli_asked pauli q b) (lent_outcome answer determined)
-    (used_record u.held.n nb' cs' used') (lent_outcome answer' determined')) 0 →
+    Call (used_measure_call u pauli q b answer determined nb' cs' used' answer' determined') 0 →
     UsedMarked u pauli q b nb' cs' used' answer'
 
 -- ---- 16, "the call names a used qubit; checked directly after 8": exactly if no earlier line holds and a named qubit
@@ -63,8 +61,7 @@ UsedCallsRefused = (u : UsedRecord) (o : Operation) (nb' cs' : List ℕ) (r : �
 abbrev pub SecondMeasurementsRefused : Type 0
 SecondMeasurementsRefused =
     (u : UsedRecord) (pauli q b answer determined : ℕ) (nb' cs' : List ℕ) (used' answer' determined' r : ℕ) →
-    Call (used_measure_call u (pauli_asked pauli q b) (lent_outcome answer determined)
-    (used_record u.held.n nb' cs' used') (lent_outcome answer' determined')) r →
+    Call (used_measure_call u pauli q b answer determined nb' cs' used' answer' determined') r →
     SixteenExactly u (measurement_of pauli q b) r
 
 -- ---- without the used word
@@ -77,10 +74,8 @@ AcceptedWithout = (u : UsedRecord) (o : Operation) (nb' cs' : List ℕ) → Call
 abbrev pub MeasuredWithout : Type 0
 MeasuredWithout =
     (u : UsedRecord) (pauli q b answer determined : ℕ) (nb' cs' : List ℕ) (used' answer' determined' : ℕ) →
-    Call (used_measure_call u (pauli_asked pauli q b) (lent_outcome answer determined)
-    (used_record u.held.n nb' cs' used') (lent_outcome answer' determined')) 0 →
-    Call (measure_call u.held (pauli_asked pauli q b) (lent_outcome answer determined)
-    (lent_record u.held.n nb' cs') (lent_outcome answer' determined')) 0
+    Call (used_measure_call u pauli q b answer determined nb' cs' used' answer' determined') 0 →
+    Call (measure_call u.held pauli q b answer determined nb' cs' answer' determined') 0
 
 -- and with the word 0 the number of every call is what it was
 abbrev pub NumbersWithout : Type 0

@@ -1,2 +1,1 @@
-// The worked examples of the documents, computed by the definitions: see specs/ for the tables and proofs/ for the
-// theorems.
+// The worked examples of the documents, computed by the definitions: see specs/ for the tables and proofs/ for the theorems.

@@ -27,7 +27,6 @@ use Rattle.buffers.specs.Sentences.{Stray, sentence}
 use Rattle.calls.specs.Expectations.{expectation_call}
 use Rattle.calls.specs.Parities.{measure_row_call}
 use Rattle.calls.specs.Sources.{observe_call}
-use Rattle.calls.specs.Asked.{lent_outcome, pauli_asked, row_asked}
 use Rattle.claims.proofs.ExpectationDemandHolds.{letter-words}
 use Rattle.claims.proofs.GatesFollow.{answer-reduced, answer-still}
 use Rattle.claims.proofs.LinesExactly.{below-exactly, both-pass}
@@ -43,7 +42,7 @@ use Rattle.expectation.proofs.ReadWords.{row-of-words}
 use Rattle.jobs.specs.Standing.{left}
 use Rattle.operations.proofs.UsedInWords.{used-in-words}
 use Rattle.operations.specs.Measurement.{determined_number, outcome_number, pauli_letter, single}
-use Rattle.operations.specs.Used.{UsedRecord, used_lines, used_record}
+use Rattle.operations.specs.Used.{UsedRecord, used_lines}
 use Rattle.operations.specs.UsedLaws.{UsedStay}
 use Rattle.operations.specs.UsedSentences.{used_sentences}
 use Rattle.operations.specs.declared.Outcome.TheVariants.{Chosen, Determined}
@@ -67,7 +66,7 @@ use Rattle.pauli.specs.Pauli.{Pauli, signed_row, x_bit, z_bit}
 use Rattle.record.proofs.AcceptedRecords.{accepted-record}
 use Rattle.record.proofs.RecordInWords.{code-above-23, misfits, stray-neighbour}
 use Rattle.record.proofs.WrittenRecords.{reduced-held-same, written_record}
-use Rattle.record.specs.Lent.{LentRecord, code_numbers, held_rows, lent_record, neighbour_words}
+use Rattle.record.specs.Lent.{LentRecord, code_numbers, held_rows, neighbour_words}
 use Rattle.record.specs.RecordSentences.{CodeAbove23, RecordMisfits, StrayNeighbour}
 use Rattle.record.specs.Reduced.{reduced}
 use Rattle.stabilizer.specs.Groups.{InGroup, Proper, SameGroup}
@@ -146,8 +145,7 @@ module _ (u : UsedRecord) (z x b : ℕ) where
       (λ e. (refl, (acts u z x, λ e. tt)))
 
   module _ (answer determined : ℕ) (nb' cs' : List ℕ) (answer' determined' : ℕ) where
-    row-conforms : Conforms (measure_row_call u (row_asked z x b) (lent_outcome answer determined)
-        (lent_record u.held.n nb' cs') (lent_outcome answer' determined'))
+    row-conforms : Conforms (measure_row_call u z x b answer determined nb' cs' answer' determined')
     row-conforms =
         record {
           order = refl;
@@ -164,8 +162,7 @@ module _ (u : UsedRecord) (z x b : ℕ) where
         }
 
     -- ---- an accepted call
-    module _ (C : Call (measure_row_call u (row_asked z x b) (lent_outcome answer determined)
-        (lent_record u.held.n nb' cs') (lent_outcome answer' determined')) 0) where
+    module _ (C : Call (measure_row_call u z x b answer determined nb' cs' answer' determined') 0) where
       abbrev l : LentRecord
       l = u.held
 
@@ -296,8 +293,7 @@ module _ (u : UsedRecord) (z x b : ℕ) where
       -- ---- single letters
       letters : (pauli q answer₂ determined₂ : ℕ) (nb₂ cs₂ : List ℕ) (used₂ answer₃ determined₃ : ℕ)
           → z ≡ letter_word (z_bit (pauli_letter pauli)) q → x ≡ letter_word (x_bit (pauli_letter pauli)) q
-          → Call (observe_call u (pauli_asked pauli q b) (lent_outcome answer₂ determined₂)
-          (used_record u.held.n nb₂ cs₂ used₂) (lent_outcome answer₃ determined₃)) 0
+          → Call (observe_call u pauli q b answer₂ determined₂ nb₂ cs₂ used₂ answer₃ determined₃) 0
           → SameAnswers answer' determined' nb' cs' answer₃ determined₃ nb₂ cs₂
       letters pauli q answer₂ determined₂ nb₂ cs₂ used₂ answer₃ determined₃ ez ex D =
           let is : (s : Bool) → signed_row s z x ≡ single (pauli_letter pauli) q s =
@@ -313,8 +309,7 @@ module _ (u : UsedRecord) (z x b : ℕ) where
                 ∙ sym C.held.1.1.1.0;
           }
 
-    module _ (r : ℕ) (C : Call (measure_row_call u (row_asked z x b) (lent_outcome answer determined)
-        (lent_record u.held.n nb' cs') (lent_outcome answer' determined')) r) where
+    module _ (r : ℕ) (C : Call (measure_row_call u z x b answer determined nb' cs' answer' determined') r) where
       sixteen : (r ≡ 16) ↔ ((first_fitting (row_arguments u z x b) ≡ 0) × (acts_on_used u z x ≡ true))
       sixteen = ((λ e. (row-sixteen u z x b).0 (sym C.number ∙ e)), λ h. C.number ∙ (row-sixteen u z x b).1 h)
 

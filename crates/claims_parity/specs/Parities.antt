@@ -7,7 +7,6 @@ use Rattle.buffers.specs.Sentences.{FirstTrue, Sentence, Stray, sentence}
 use Rattle.calls.specs.Expectations.{expectation_call}
 use Rattle.calls.specs.Parities.{measure_row_call}
 use Rattle.calls.specs.Sources.{observe_call}
-use Rattle.calls.specs.Asked.{lent_outcome, pauli_asked, row_asked}
 use Rattle.claims.specs.Arguments.{IsRecord}
 use Rattle.claims.specs.Conforming.{Answered}
 use Rattle.claims.specs.ExpectationDemand.{letter_word}
@@ -15,11 +14,11 @@ use Rattle.claims.specs.OperationsDemand.{IsReduced}
 use Rattle.claims.specs.UsedDemand.{UsedCopied, left_used}
 use Rattle.jobs.specs.Standing.{StillRecord, left}
 use Rattle.operations.specs.Measurement.{Measured, pauli_letter}
-use Rattle.operations.specs.Used.{UsedRecord, used_record}
+use Rattle.operations.specs.Used.{UsedRecord}
 use Rattle.operations.specs.UsedSentences.{used_sentences}
 use Rattle.parity.specs.RowLines.{acts_on_used, row_arguments}
 use Rattle.pauli.specs.Pauli.{Pauli, signed_row, x_bit, z_bit}
-use Rattle.record.specs.Lent.{LentRecord, held_rows, lent_record}
+use Rattle.record.specs.Lent.{LentRecord, held_rows}
 use Rattle.record.specs.RecordSentences.{CodeAbove23, RecordMisfits, StrayNeighbour}
 use Rattle.stabilizer.specs.Groups.{InGroup, SameGroup}
 use Rattle.words.specs.Bits.{bit, is_odd}
@@ -78,8 +77,7 @@ pub record SameAnswers (answer determined : ℕ) (nb cs : List ℕ) (answer₂ d
 pub record MeasureRowSays (u : UsedRecord) (z x b answer determined : ℕ) (nb' cs' : List ℕ) (answer' determined' r : ℕ)
     :
     Type 0 where
-  pub answered : Answered (measure_row_call u (row_asked z x b) (lent_outcome answer determined)
-      (lent_record u.held.n nb' cs') (lent_outcome answer' determined')) r
+  pub answered : Answered (measure_row_call u z x b answer determined nb' cs' answer' determined') r
   pub accepted : (r ≡ 0) ↔ RowFits u z x b
   pub numbers : FirstTrue (measure_row_sentences u z x b) r
   pub group : r ≡ 0 → RowStands u.held z x b (left u.held nb' cs') answer' determined'
@@ -92,8 +90,7 @@ pub record MeasureRowSays (u : UsedRecord) (z x b answer determined : ℕ) (nb' 
   -- "on a single letter the group is that of `observe`": its answers and its record too
   pub letter : r ≡ 0 → (pauli q answer₂ determined₂ : ℕ) (nb₂ cs₂ : List ℕ) (used₂ answer₃ determined₃ : ℕ)
       → z ≡ letter_word (z_bit (pauli_letter pauli)) q → x ≡ letter_word (x_bit (pauli_letter pauli)) q
-      → Call (observe_call u (pauli_asked pauli q b) (lent_outcome answer₂ determined₂)
-      (used_record u.held.n nb₂ cs₂ used₂) (lent_outcome answer₃ determined₃)) 0
+      → Call (observe_call u pauli q b answer₂ determined₂ nb₂ cs₂ used₂ answer₃ determined₃) 0
       → SameAnswers answer' determined' nb' cs' answer₃ determined₃ nb₂ cs₂
   -- 16 exactly if no earlier line holds and the row acts on a used qubit
   pub refused : (r ≡ 16) ↔ ((first_fitting (row_arguments u z x b) ≡ 0) × (acts_on_used u z x ≡ true))

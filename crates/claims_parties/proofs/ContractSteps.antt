@@ -9,7 +9,6 @@ use Rattle.buffers.specs.Buffers.{accepted, accepted_number}
 use Rattle.buffers.specs.Refusals.{first_fitting}
 use Rattle.calls.specs.Parties.{party_call, party_measure_call}
 use Rattle.calls.specs.Sources.{party_observe_call}
-use Rattle.calls.specs.Asked.{lent_outcome, pauli_asked}
 use Rattle.claims.specs.StoreDemand.{Session}
 use Rattle.buffers.specs.Calls.{Call}
 use Rattle.source.specs.PartySources.{party_observed}
@@ -129,8 +128,7 @@ kept_buffer r buffer = go (eqb r 0)
 -- the numbers of an accepted measurement
 told : (word g : ℕ) (s : Session) (pauli q b answer determined r : ℕ) (nb' cs' : List ℕ)
     (used' answer' determined' : ℕ) →
-    Call (party_measure_call word g s.current (pauli_asked pauli q b) (lent_outcome answer determined)
-    (used_record s.current.held.n nb' cs' used') (lent_outcome answer' determined')) r →
+    Call (party_measure_call word g s.current pauli q b answer determined nb' cs' used' answer' determined') r →
     r ≡ 0 →
     answer' ∷ determined' ∷ [] ≡ shared_measured word g s (party_measure pauli q b)
 told word g s pauli q b answer determined r nb' cs' used' answer' determined' C z =
@@ -142,8 +140,7 @@ told word g s pauli q b answer determined r nb' cs' used' answer' determined' C 
 -- and of an accepted observation
 told-by-lot : (word g : ℕ) (s : Session) (pauli q b answer determined r : ℕ) (nb' cs' : List ℕ)
     (used' answer' determined' : ℕ) →
-    Call (party_observe_call word g s.current (pauli_asked pauli q b) (lent_outcome answer determined)
-    (used_record s.current.held.n nb' cs' used') (lent_outcome answer' determined')) r →
+    Call (party_observe_call word g s.current pauli q b answer determined nb' cs' used' answer' determined') r →
     r ≡ 0 →
     answer' ∷ determined' ∷ [] ≡ shared_measured word g s (party_observe pauli q b)
 told-by-lot word g s pauli q b answer determined r nb' cs' used' answer' determined' C z =

@@ -22,12 +22,11 @@ use Rattle.buffers.proofs.SentenceLaws.{
 }
 use Rattle.buffers.specs.Refusals.{first_fitting}
 use Rattle.calls.proofs.PartySourceCalls.{observed-as-measured}
-use Rattle.operations.proofs.InPlaceLines.{held-accepted}
-use Rattle.operations.proofs.MeasureLines.{arguments-before}
+use Rattle.calls.proofs.InPlaceLines.{held-accepted}
+use Rattle.calls.proofs.MeasureLines.{arguments-before}
 use Rattle.calls.proofs.SourceCalls.{observe-as-measured}
 use Rattle.calls.specs.Parties.{party_measure_call}
 use Rattle.calls.specs.Sources.{party_observe_call, party_renew_call, renew_call}
-use Rattle.calls.specs.Asked.{lent_outcome, pauli_asked}
 use Rattle.claims.proofs.PartiesExactly.{parties-of, of-parties, own-exactly}
 use Rattle.claims.proofs.families.Shared.{answered, at_zero, by_lines, table-fills}
 use Rattle.claims.specs.Conforming.{Conforms}
@@ -85,10 +84,8 @@ module _ (word g : ℕ) (u : UsedRecord) where
     )
 
     module _ (answer determined : ℕ) (nb' cs' : List ℕ) (used' answer' determined' r : ℕ)
-        (C : Call (party_observe_call word g u (pauli_asked pauli q b) (lent_outcome answer determined)
-        (used_record u.held.n nb' cs' used') (lent_outcome answer' determined')) r) where
-      conforms : Conforms (party_observe_call word g u (pauli_asked pauli q b) (lent_outcome answer determined)
-          (used_record u.held.n nb' cs' used') (lent_outcome answer' determined'))
+        (C : Call (party_observe_call word g u pauli q b answer determined nb' cs' used' answer' determined') r) where
+      conforms : Conforms (party_observe_call word g u pauli q b answer determined nb' cs' used' answer' determined')
       conforms =
           record {
             order = refl;
@@ -108,9 +105,9 @@ module _ (word g : ℕ) (u : UsedRecord) where
                 );
           }
 
-      measured : r ≡ 0 → Call (party_measure_call word g u (pauli_asked pauli q (source.answered u pauli q b))
-          (lent_outcome answer determined) (used_record u.held.n nb' cs' used')
-          (lent_outcome answer' determined')) 0
+      measured : r ≡ 0 → Call (party_measure_call word g u pauli q (source.answered u pauli q b) answer determined nb' cs'
+          used'
+          answer' determined') 0
       measured z = observed-as-measured word g u pauli q b answer determined nb' cs' used' answer' determined'
           (at_zero C z)
 
@@ -123,9 +120,9 @@ module _ (word g : ℕ) (u : UsedRecord) where
             never-14 = λ e. let p = skips (party_observe_lines word g u pauli q b) {ms = []} 14 refl e
                 (fits-at (party_observe_lines word g u pauli q b) C.number) in
                 absurd (omega (arith, e, passed-all p.1));
-            as-measured = λ z. subst (λ v. Call (party_measure_call word g u (pauli_asked pauli q v)
-                (lent_outcome answer determined) (used_record u.held.n nb' cs' used')
-                (lent_outcome answer' determined')) 0) (sym (at_zero C z).held.1.0) (measured z);
+            as-measured = λ z. subst (λ v. Call (party_measure_call word g u pauli q v answer determined nb' cs' used'
+                answer'
+                determined') 0) (sym (at_zero C z).held.1.0) (measured z);
             keeps = λ z. party-calls-keep.measure word g u pauli q (source.answered u pauli q b) answer determined nb'
                 cs' used'
                 answer' determined' (measured z);
@@ -240,9 +237,8 @@ module _ (word g : ℕ) (u : UsedRecord) where
               (renewed-passes-party word g u q k z).lines).no-crossing;
         }
 
-    module _ (nb' cs' : List ℕ) (used' r : ℕ) (C : Call (party_renew_call word g u q k
-        (used_record u.held.n nb' cs' used')) r) where
-      renew-conforms : Conforms (party_renew_call word g u q k (used_record u.held.n nb' cs' used'))
+    module _ (nb' cs' : List ℕ) (used' r : ℕ) (C : Call (party_renew_call word g u q k nb' cs' used') r) where
+      renew-conforms : Conforms (party_renew_call word g u q k nb' cs' used')
       renew-conforms = record { order = refl; complete = λ z. (tt, (refl, (length-set u.held.codes q k, tt))) }
 
       whole : r ≡ 0 → Call (renew_call u q k nb' cs' used') 0

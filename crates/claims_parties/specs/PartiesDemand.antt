@@ -3,7 +3,6 @@ use Rattle.std.specs.Prelude.{cond, false, true, List, [], ◌∷◌, ◌≢◌,
 use Rattle.buffers.specs.Refusals.{Refusal, first_fitting}
 use Rattle.calls.specs.InPlace.{used_call, used_measure_call}
 use Rattle.calls.specs.Parties.{party_call, party_measure_call}
-use Rattle.calls.specs.Asked.{lent_outcome, pauli_asked}
 use Rattle.claims.specs.StoreDemand.{Session}
 use Rattle.buffers.specs.Calls.{Call}
 use Rattle.parties.specs.PartyStores.{own_places}
@@ -13,7 +12,7 @@ use Rattle.operations.specs.Steps.{complement_of, cz_on, gate_with}
 use Rattle.record.specs.Lent.{held_rows}
 use Rattle.stabilizer.specs.Groups.{SameGroup}
 use Rattle.store.specs.StoreLines.{store_lengths}
-use Rattle.operations.specs.Used.{UsedRecord, used_lines, used_record}
+use Rattle.operations.specs.Used.{UsedRecord, used_lines}
 use Rattle.claims_parties.specs.PartyRuns.{
   CallOf,
   SharedCall,
@@ -26,7 +25,7 @@ use Rattle.claims_parties.specs.PartyRuns.{
 }
 
 -- "For two runs from one word in which one group's calls are equal in order, with the other group's calls arbitrary and
--- placed anywhere, that group's refusals, outcomes, determined bits, codes, neighbour words, used bits and saved states
+-- placed anywhere, that party's refusals, outcomes, determined bits, codes, neighbour words, used bits and saved states
 -- are equal after each of its calls."
 abbrev pub NonInterference : Type 0
 NonInterference = (word g : ℕ) → g < 2 → (cs ds : List CallOf) → own_calls g cs ≡ own_calls g ds →
@@ -98,8 +97,6 @@ pub record PartyCallsStand : Type 0 where
       StandsAsWhole u nb' cs' r nb'' cs''
   pub measure : (word g : ℕ) (u : UsedRecord) (pauli q b answer determined : ℕ) (nb' cs' : List ℕ)
       (used' answer' determined' r : ℕ) (nb'' cs'' : List ℕ) (used'' answer'' determined'' : ℕ) →
-      Call (party_measure_call word g u (pauli_asked pauli q b) (lent_outcome answer determined)
-      (used_record u.held.n nb' cs' used') (lent_outcome answer' determined')) 0 →
-      Call (used_measure_call u (pauli_asked pauli q b) (lent_outcome answer determined)
-      (used_record u.held.n nb'' cs'' used'') (lent_outcome answer'' determined'')) r →
+      Call (party_measure_call word g u pauli q b answer determined nb' cs' used' answer' determined') 0 →
+      Call (used_measure_call u pauli q b answer determined nb'' cs'' used'' answer'' determined'') r →
       StandsAsWhole u nb' cs' r nb'' cs'' × (answer' ≡ answer'') × (determined' ≡ determined'') × (used' ≡ used'')

@@ -3,8 +3,6 @@ use Rattle.std.specs.Prelude.{List, [], ◌∷◌, ◌≡◌, ℕ}
 use Rattle.calls.specs.PartyStores.{party_forget_call, party_return_call, party_save_call}
 use Rattle.calls.specs.Parties.{party_call, party_measure_call}
 use Rattle.calls.specs.Sources.{party_observe_call, party_renew_call}
-use Rattle.calls.specs.Asked.{lent_outcome, pauli_asked}
-use Rattle.operations.specs.Used.{used_record}
 use Rattle.claims.specs.StoreDemand.{Session}
 use Rattle.buffers.specs.Calls.{Call}
 use Rattle.jobs.specs.Standing.{left}
@@ -51,8 +49,7 @@ pub record ContractsAreSteps : Type 0 where
       IsStep word g s (party_cz a b) r (with_record s nb' cs' s.current.used)
   pub measure : (word g : ℕ) (s : Session) (pauli q b answer determined r : ℕ) (nb' cs' : List ℕ)
       (used' answer' determined' : ℕ) →
-      Call (party_measure_call word g s.current (pauli_asked pauli q b) (lent_outcome answer determined)
-      (used_record s.current.held.n nb' cs' used') (lent_outcome answer' determined')) r →
+      Call (party_measure_call word g s.current pauli q b answer determined nb' cs' used' answer' determined') r →
       IsStep word g s (party_measure pauli q b) r (with_record s nb' cs' used')
       × (r ≡ 0 → answer' ∷ determined' ∷ [] ≡ shared_measured word g s (party_measure pauli q b))
   pub complement : (word g : ℕ) (s : Session) (a r : ℕ) (nb' cs' : List ℕ) →
@@ -62,18 +59,16 @@ pub record ContractsAreSteps : Type 0 where
       Call (party_save_call word g s.current name s.store heads' nb' cs') r →
       IsStep word g s (party_save name) r (with_store s heads' nb' cs')
   pub return-to : (word g : ℕ) (s : Session) (name r : ℕ) (nb' cs' : List ℕ) (used' : ℕ) →
-      Call (party_return_call word g s.current name s.store
-      (used_record s.current.held.n nb' cs' used')) r →
+      Call (party_return_call word g s.current name s.store nb' cs' used') r →
       IsStep word g s (party_return name) r (with_record s nb' cs' used')
   pub forget : (word g : ℕ) (s : Session) (name r : ℕ) (heads' : List ℕ) →
       Call (party_forget_call word g s.current name s.store heads') r →
       IsStep word g s (party_forget name) r (with_store s heads' s.store.neighbours s.store.codes)
   pub observe : (word g : ℕ) (s : Session) (pauli q b answer determined r : ℕ) (nb' cs' : List ℕ)
       (used' answer' determined' : ℕ) →
-      Call (party_observe_call word g s.current (pauli_asked pauli q b) (lent_outcome answer determined)
-      (used_record s.current.held.n nb' cs' used') (lent_outcome answer' determined')) r →
+      Call (party_observe_call word g s.current pauli q b answer determined nb' cs' used' answer' determined') r →
       IsStep word g s (party_observe pauli q b) r (with_record s nb' cs' used')
       × (r ≡ 0 → answer' ∷ determined' ∷ [] ≡ shared_measured word g s (party_observe pauli q b))
   pub renew : (word g : ℕ) (s : Session) (q k r : ℕ) (nb' cs' : List ℕ) (used' : ℕ) →
-      Call (party_renew_call word g s.current q k (used_record s.current.held.n nb' cs' used')) r →
+      Call (party_renew_call word g s.current q k nb' cs' used') r →
       IsStep word g s (party_renew q k) r (with_record s nb' cs' used')

@@ -4,7 +4,6 @@ use Rattle.std.specs.Prelude.{cond, false, true, List, ◌↔◌, ◌≡◌, ◌
 use Rattle.buffers.specs.Refusals.{first_fitting}
 use Rattle.calls.specs.PartyStores.{party_forget_call, party_return_call, party_save_call}
 use Rattle.calls.specs.Parties.{party_call, party_measure_call}
-use Rattle.calls.specs.Asked.{lent_outcome, pauli_asked}
 use Rattle.claims.specs.OperationsDemand.{IsReduced}
 use Rattle.claims.specs.UsedDemand.{left_used}
 use Rattle.buffers.specs.Calls.{Call}
@@ -13,7 +12,7 @@ use Rattle.parties.specs.Masks.{crosses, in_party, masked}
 use Rattle.operations.specs.Steps.{complement_of, cz_on, gate_with}
 use Rattle.store.specs.Places.{Store, found, lookup, nothing, others_held}
 use Rattle.store.specs.StoreLines.{store_lines}
-use Rattle.operations.specs.Used.{UsedRecord, used_lines, used_record}
+use Rattle.operations.specs.Used.{UsedRecord, used_lines}
 use Rattle.words.specs.Bits.{bit}
 
 -- ---- the record
@@ -37,8 +36,7 @@ pub record PartyCallsKeep : Type 0 where
       Call (party_call word g u (complement_of a) nb' cs') 0 → PartyKeeps word g u (left_used u nb' cs' u.used)
   pub measure : (word g : ℕ) (u : UsedRecord) (pauli q b answer determined : ℕ) (nb' cs' : List ℕ)
       (used' answer' determined' : ℕ) →
-      Call (party_measure_call word g u (pauli_asked pauli q b) (lent_outcome answer determined)
-      (used_record u.held.n nb' cs' used') (lent_outcome answer' determined')) 0 →
+      Call (party_measure_call word g u pauli q b answer determined nb' cs' used' answer' determined') 0 →
       PartyKeeps word g u (left_used u nb' cs' used')
 
 -- ---- "A group's gate, cz or measure reduces that group's vertices alone": a record that has these vertices alone is
@@ -54,8 +52,7 @@ pub record PartyCallsReduce : Type 0 where
       Call (party_call word g u (cz_on a b) nb' cs') 0 → PartyReduced word g (left_used u nb' cs' u.used)
   pub measure : (word g : ℕ) (u : UsedRecord) (pauli q b answer determined : ℕ) (nb' cs' : List ℕ)
       (used' answer' determined' : ℕ) →
-      Call (party_measure_call word g u (pauli_asked pauli q b) (lent_outcome answer determined)
-      (used_record u.held.n nb' cs' used') (lent_outcome answer' determined')) 0 →
+      Call (party_measure_call word g u pauli q b answer determined nb' cs' used' answer' determined') 0 →
       PartyReduced word g (left_used u nb' cs' used')
 
 -- ---- the store
@@ -102,7 +99,7 @@ pub record PartyReturnGives (word g : ℕ) (u : UsedRecord) (name : ℕ) (st : S
 -- of every accepted return of a party
 abbrev pub PartyReturnsGive : Type 0
 PartyReturnsGive = (word g : ℕ) (u : UsedRecord) (name : ℕ) (st : Store) (nb' cs' : List ℕ) (used' : ℕ) →
-    Call (party_return_call word g u name st (used_record u.held.n nb' cs' used')) 0 →
+    Call (party_return_call word g u name st nb' cs' used') 0 →
     PartyReturnGives word g u name st (left_used u nb' cs' used')
 
 -- ---- refusals
@@ -122,7 +119,6 @@ pub record PartyNamesRefused : Type 0 where
   pub save : (word g : ℕ) (u : UsedRecord) (name : ℕ) (st : Store) (heads' nb' cs' : List ℕ) (r : ℕ) →
       Call (party_save_call word g u name st heads' nb' cs') r → PartyFull word g u name st r
   pub return-to : (word g : ℕ) (u : UsedRecord) (name : ℕ) (st : Store) (nb' cs' : List ℕ) (used' r : ℕ) →
-      Call (party_return_call word g u name st (used_record u.held.n nb' cs' used')) r →
-      PartyNotHeld word g u name st r
+      Call (party_return_call word g u name st nb' cs' used') r → PartyNotHeld word g u name st r
   pub forget : (word g : ℕ) (u : UsedRecord) (name : ℕ) (st : Store) (heads' : List ℕ) (r : ℕ) →
       Call (party_forget_call word g u name st heads') r → PartyNotHeld word g u name st r

@@ -46,7 +46,7 @@ use Rattle.clifford.specs.Clifford.{
   then,
 }
 
--- ---- a law over cliffords is a law over five bits
+-- ---- a law over cliffords is a law over from_five bits
 abbrev pub from_bits : Bool → Bool → Bool → Class
 from_bits false false false = XZ
 from_bits false false true = YZ
@@ -158,7 +158,7 @@ phase_after-then k m z x =
     ∙ sym (+ᵖ-assoc (minus (signs k z x)) (phase_after (plain k) z x) _)
     ∙ ap (λ t. t +ᵖ phase_after m (z_after k z x) (x_after k z x)) (sym (phase_after-signs k z x))
 
--- equality of cliffords is that of five bits
+-- equality of cliffords is that of from_five bits
 abbrev pub same_class : Class → Class → Bool
 same_class a b = eqb (class_number a) (class_number b)
 

@@ -4,9 +4,8 @@ ghost use Rattle.std.specs.Prelude.{◌≡◌, ℕ, ◌<◌, get_or};
 ghost use Rattle.pauli.specs.Pauli.{minus};
 ghost use Rattle.clifford.specs.Clifford.{bit_c, bit_d, class_of, clifford_of, code_of, image_x, image_z};
 ghost use Rattle.clifford.specs.Clifford.{image, image_phase, inverse, then};
-ghost use Rattle.clifford_impl.specs.internal.Composing.{Composes};
 
-use crate::compositions::{entry, lent_entry, row};
+use crate::compositions::{entry, row};
 use pauli::{Letter, letter_of, x_bit, z_bit};
 
 // The letters to which X and Z go.
@@ -34,8 +33,8 @@ pub fn image_letters(class: u8) -> ImageLetters
     }
 }
 
-// The letter to which a code sends a letter, bit by bit: the image of X where the letter has an X, times that of Z
-// where it has a Z.
+// The letter to which a code sends a letter, bit by bit: the image of X where the letter has an X, times that of Z where
+// it has a Z.
 fn image_letter(index: u8, letter: Letter) -> Letter
     requires { index < 24 }
     ensures { result ≡ image (clifford_of index) letter }
@@ -51,8 +50,8 @@ fn image_letter(index: u8, letter: Letter) -> Letter
     )
 }
 
-// Whether the image of a letter is negative. That of Y, i times the image of X times the image of Z, has both signs,
-// and one more in classes 1 to 3: these exchange two letters, as XZ is -i_y and YZ is i_x.
+// Whether the image of a letter is negative. That of Y, i times the image of X times the image of Z, has both signs, and
+// one more in classes 1 to 3: these exchange two letters, as XZ is -i_y and YZ is i_x.
 fn image_minus(index: u8, letter: Letter) -> bool
     requires { index < 24 }
     ensures { minus result ≡ image_phase (clifford_of index) letter }
@@ -85,16 +84,6 @@ impl Code {
     {
         Code {
             index: entry(self.index, next.index),
-        }
-    }
-
-    // The same by the table that is lent, where many codes are composed.
-    pub fn then_by(self, next: Code, table: &[u8; 576]) -> Code
-        requires { Composes table.now × (self.index < 24) × (next.index < 24) }
-        ensures { result.index ≡ code_of (then (clifford_of self.index) (clifford_of next.index)) }
-    {
-        Code {
-            index: lent_entry(table, self.index, next.index),
         }
     }
 

@@ -1,9 +1,18 @@
-// The composition of codes: a table, its rows, and the table laid down once and lent where many codes are composed.
+// The composition of codes: a table, and its rows.
 ghost use Rattle.std.specs.Prelude.{◌≡◌, ℕ, ◌+◌, ◌<◌, ◌≤◌, get_or};
 ghost use Rattle.clifford.specs.Clifford.{clifford_of, code_of, then};
-ghost use Rattle.clifford_impl.specs.internal.Composing.{Composes};
 
 use crate::tables::THEN;
+
+// The entry of the table.
+pub fn entry(first: u8, next: u8) -> u8
+    requires { (first < 24) × (next < 24) }
+    ensures { (result ≡ code_of (then (clifford_of first) (clifford_of next))) × (result < 24) }
+{
+    let a = first as usize;
+    let b = next as usize;
+    THEN[24 * a + b]
+}
 
 // 24 entries of a table, from a place on.
 fn entries(table: &[u8; 576], start: usize) -> [u8; 24]
@@ -17,46 +26,6 @@ fn entries(table: &[u8; 576], start: usize) -> [u8; 24]
         b += 1;
     }
     row
-}
-
-// The entry of the table. The codes that are put before one, 11 and 13, have rows that the compiler knows, and of the
-// table it then keeps their 24 entries alone.
-pub fn entry(first: u8, next: u8) -> u8
-    requires { (first < 24) × (next < 24) }
-    ensures { (result ≡ code_of (then (clifford_of first) (clifford_of next))) × (result < 24) }
-{
-    let a = first as usize;
-    let b = next as usize;
-    match first {
-        11 => {
-            let table = THEN;
-            let codes = entries(&table, 264);
-            codes[b]
-        }
-        13 => {
-            let table = THEN;
-            let codes = entries(&table, 312);
-            codes[b]
-        }
-        _ => THEN[24 * a + b],
-    }
-}
-
-// The table, to be laid down by who lends it.
-pub fn composition_table() -> [u8; 576]
-    ensures { Composes result }
-{
-    THEN
-}
-
-// The entry of the table that is lent.
-pub fn lent_entry(table: &[u8; 576], first: u8, next: u8) -> u8
-    requires { Composes table.now × (first < 24) × (next < 24) }
-    ensures { result ≡ code_of (then (clifford_of first) (clifford_of next)) }
-{
-    let a = first as usize;
-    let b = next as usize;
-    table[24 * a + b]
 }
 
 // The row of the table for a code that comes before others: entry b is the code and then b. The codes that loops put

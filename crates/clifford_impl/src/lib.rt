@@ -1,6 +1,6 @@
 // Codes of the 24 local Cliffords composed, undone, and their images; rows sent through them, on words.
 pub mod codes;
-pub mod compositions;
+mod compositions;
 pub mod numbers;
 pub mod rows;
 mod tables;

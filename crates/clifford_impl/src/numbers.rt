@@ -1,7 +1,6 @@
 // Codes by their numbers: one and then another, and the codes with which records are rewritten, by their names.
 ghost use Rattle.std.specs.Prelude.{◌≡◌, ℕ, ◌<◌, get_or};
 ghost use Rattle.clifford.specs.Clifford.{clifford_of, code_of, then};
-ghost use Rattle.clifford_impl.specs.internal.Composing.{Composes};
 
 use crate::codes::Code;
 
@@ -19,15 +18,6 @@ pub fn compose(first: u8, next: u8) -> u8
     ensures { (result ≡ code_of (then (clifford_of first) (clifford_of next))) × (result < 24) }
 {
     let code = Code { index: first }.then(Code { index: next });
-    code.index
-}
-
-// The same by the table that is lent.
-pub fn compose_by(table: &[u8; 576], first: u8, next: u8) -> u8
-    requires { Composes table.now × (first < 24) × (next < 24) }
-    ensures { result ≡ code_of (then (clifford_of first) (clifford_of next)) }
-{
-    let code = Code { index: first }.then_by(Code { index: next }, table);
     code.index
 }
 

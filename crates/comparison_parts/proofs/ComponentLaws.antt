@@ -146,8 +146,8 @@ module _ (n : ℕ) (nb cs nb₂ cs₂ : List ℕ) (component : ℕ) (P : SoundPa
                   proper.within proper₂.within).0
                   (not-false (no_choice k (rows_of k (part_of_record k at r)) (rows_of k (part_of_record k at t)))
                   (sym A.whether ∙ f)) (λ i. d (e i))
-                  (part-carried n (bit component) k e numbers r t P.first.simple P.second.simple
-                  component-closed D d K);
+                  (part-carried n (bit component) k e numbers r t P.first.simple P.second.simple component-closed
+                  D d K);
               least_at = λ e. absurd (false≢true e);
               kept = λ q a. refl;
               codes = λ C. C;

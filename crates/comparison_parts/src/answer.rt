@@ -55,8 +55,8 @@ fn induced_image(
     image_answer(n, neighbours, induced)
 }
 
-// The comparison of two reduced records: 3 where there is a limit and a part of either has more than 20 vertices, 13,
-// or the least choice, the complementation list and its count.
+// The comparison of two reduced records: 3 where there is a limit and a part of either has more than 20 vertices, 13, or
+// the least choice, the complementation list and its count.
 pub fn compare_reduced(
     limited: bool,
     n: usize,
@@ -73,8 +73,8 @@ pub fn compare_reduced(
     requires choice_len { (length choice.old ≡ n) × (length list.old ≡ 96) }
     ensures { (R S : ℕ → Pauli) → HoldsReduced n R neighbours.now codes.now
         → HoldsReduced n S neighbours2.now codes2.now
-        → PairAnswered limited n R S choice.old list.old count.old result
-        choice.new list.new count.new }
+        → PairAnswered limited n R S choice.old list.old count.old result choice.new
+        list.new count.new }
 {
     if too_large(limited, neighbours, neighbours2) {
         return 3;

@@ -22,8 +22,8 @@ pub struct Whole {
     pub choice: [u8; 64],
 }
 
-// One part compared: no choice, where an edge of the second graph leaves it or it has none; else its least choice
-// beside those of other parts; by a table without equations, which it leaves so.
+// One part compared: no choice, where an edge of the second graph leaves it or it has none; else its least choice beside
+// those of other parts; by a table without equations, which it leaves so.
 fn compare_component(
     table: &mut [[u64; 4]; 256],
     n: usize,

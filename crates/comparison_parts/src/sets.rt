@@ -6,7 +6,7 @@ ghost use Rattle.comparison.specs.Parts.{part_above};
 ghost use Rattle.words.specs.Bits.{bit};
 ghost use Rattle.comparison_parts.specs.internal.Spreads.{PartWord, spread_to};
 
-use words::{count, has, single, smallest};
+use words::{count, has, single};
 
 // The marked vertices and their neighbours.
 pub fn spread(neighbours: &[u64], marked: u64) -> u64
@@ -25,19 +25,17 @@ pub fn spread(neighbours: &[u64], marked: u64) -> u64
     reached
 }
 
-// The connected part of vertex q: its neighbours are reached, then those of a vertex reached and not passed, until
-// there is none.
+// The connected part of vertex q: the vertex, its neighbours, theirs and so on, until none is new.
 pub fn part(neighbours: &[u64], q: usize) -> u64
     requires neighbours_len_bound { (length neighbours.now ≤ 64) × (q < length neighbours.now) }
     requires simple { Simple (length neighbours.now) (graph_in neighbours.now) }
     ensures { PartWord (length neighbours.now) (graph_in neighbours.now) q result }
 {
     let mut reached = single(q);
-    let mut passed = 0;
-    while reached != passed {
-        let i = smallest(reached ^ passed);
-        reached = reached | neighbours[i];
-        passed = passed | single(i);
+    let mut next = spread(neighbours, reached);
+    while next != reached {
+        reached = next;
+        next = spread(neighbours, reached);
     }
     reached
 }

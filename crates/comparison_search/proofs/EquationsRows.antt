@@ -3,7 +3,7 @@ use mathlib.Core.Bool.{false, true, true≢false}
 use mathlib.Core.List.{List}
 use mathlib.Core.Logic.{inl, inr, ◌⊎◌}
 use mathlib.Core.Path.{ap, ap₂, refl, subst, sym, ◌∙◌, ◌≡◌}
-use Prim.Native.Nat.{◌%◌, ◌/◌, ◌<◌, ◌^◌, suc, zero, ℕ}
+use Prim.Native.Nat.{◌%◌, ◌+◌, ◌/◌, ◌<◌, ◌^◌, suc, zero, ℕ}
 use native.Mathlib.Decide.{ℕ_discrete}
 use native.Mathlib.Omega.{arith}
 use lib.Bits.{bit_xor}
@@ -136,38 +136,47 @@ module _ (table : List Equation) (T : Triangular table) (i k : ℕ) (after : i <
   row-added : Rewritten table next
   row-added = record { triangular = triangular; same = λ w. (forth w, back w) }
 
--- the state of a clearing: the table has the same solutions, and row i is as it was
-pub record Clearing (table₀ table : List Equation) (i : ℕ) (p : Equation) : Type 0 where
+-- the state of a clearing: rows from k on are as they were, and row i is
+pub record Clearing (table₀ table : List Equation) (i k : ℕ) (p : Equation) : Type 0 where
+  pub after : i < k
   pub so_far : Rewritten table₀ table
   pub row : p ≡ equation_at table i
 
 pub clear-start : (table : List Equation) → Triangular table → (i : ℕ) (p : Equation) → p ≡ equation_at table i
-    → Clearing table table i p
-clear-start table T i p e = record { so_far = rewritten-again table T; row = e }
+    → Clearing table table i (i + 1) p
+clear-start table T i p e = record { after = omega arith; so_far = rewritten-again table T; row = e }
 
-pub rewritten-twice : (table next result : List Equation) → Rewritten table next → Rewritten next result
-    → Rewritten table result
-rewritten-twice table next result R S =
-    record {
-      triangular = S.triangular;
-      same = λ w. ((λ s. (S.same w).0 ((R.same w).0 s)), (λ s. (R.same w).1 ((S.same w).1 s)));
-    }
+module _ (table₀ table : List Equation) (i k : ℕ) (p : Equation) (S : Clearing table₀ table i k p) where
+  pub clear_kept : Clearing table₀ table i (k + 1) p
+  clear_kept = record { after = further S.after; so_far = S.so_far; row = S.row }
+    where
+      further : i < k → i < k + 1
+      further l = omega (arith, l)
 
-pub clear-added : (table₀ table : List Equation) (i k : ℕ) (p : Equation) → Clearing table₀ table i p → i < k → k < 256
-    → (e r : Equation) → e ≡ equation_at table k → unknown e i ≡ true → r ≡ added e p
-    → Clearing table₀ (set table k r) i p
-clear-added table₀ table i k p S after few e r he here hr =
-    subst (λ r. Clearing table₀ (set table k r) i p) (sym (hr ∙ ap₂ added he S.row))
-    (record {
-      so_far = rewritten-twice table₀ table _ S.so_far (row-added table T i k after few at);
-      row = S.row ∙ sym (row_kept table T i k after few at);
-    })
-  where
-    T : Triangular table
-    T = S.so_far.triangular
+  pub clear-added : k < 256 → (e r : Equation) → e ≡ equation_at table k → unknown e i ≡ true → r ≡ added e p
+      → Clearing table₀ (set table k r) i (k + 1) p
+  clear-added few e r he here hr =
+      subst (λ r. Clearing table₀ (set table k r) i (k + 1) p) (sym (hr ∙ ap₂ added he S.row))
+      (record {
+        after = clear_kept.after;
+        so_far = record {
+          triangular = R.triangular;
+          same = λ w. (
+            (λ s. (R.same w).0 ((S.so_far.same w).0 s)),
+            (λ s. (S.so_far.same w).1 ((R.same w).1 s)),
+          );
+        };
+        row = S.row ∙ sym (row_kept table T i k S.after few at);
+      })
+    where
+      T : Triangular table
+      T = S.so_far.triangular
 
-    at : unknown (equation_at table k) i ≡ true
-    at = ap (λ f. unknown f i) (sym he) ∙ here
+      at : unknown (equation_at table k) i ≡ true
+      at = ap (λ f. unknown f i) (sym he) ∙ here
+
+      R : Rewritten table (set table k (added (equation_at table k) (equation_at table i)))
+      R = row-added table T i k S.after few at
 
 -- ---- all steps of an insertion
 pub nothing_left : (table : List Equation) (e left : Equation) → Triangular table → Summed table e left

@@ -12,8 +12,7 @@ pub fn least_class(table: &[[u64; 4]; 256], held: [u64; 4], q: usize) -> u8
     requires { q < 64 }
     ensures { (n : ℕ) (choice : List ℕ) → q < n → q < length choice
         → assignment_of held ≡ class_assignment n (codes_of choice)
-        → FirstFit (class_assignment n) (equations_in table.now) q
-        (λ u. codes_of (with_class choice q u)) 6 result }
+        → FirstFit (class_assignment n) (equations_in table.now) q (λ u. codes_of (with_class choice q u)) 6 result }
 {
     let mut v = 0u8;
     while v < 6 {
@@ -31,8 +30,7 @@ pub fn least_sign(table: &[[u64; 4]; 256], held: [u64; 4], q: usize) -> u8
     requires { q < 64 }
     ensures { (n : ℕ) (choice : List ℕ) → q < n → q < length choice
         → assignment_of held ≡ sign_assignment n (codes_of choice)
-        → FirstFit (sign_assignment n) (equations_in table.now) q
-        (λ u. codes_of (with_signs choice q u)) 4 result }
+        → FirstFit (sign_assignment n) (equations_in table.now) q (λ u. codes_of (with_signs choice q u)) 4 result }
 {
     let mut v = 0u8;
     while v < 4 {

@@ -1,5 +1,5 @@
-// Linear equations modulo 2 over the unknowns of 64 qubits, four for each, whose sum is to be 0: four words, and
-// unknown l of qubit q is bit q of word l.
+// Linear equations modulo 2 over the unknowns of 64 qubits, four for each, whose sum is to be 0: four words, and unknown
+// l of qubit q is bit q of word l.
 ghost use Rattle.std.specs.Prelude.{◌≡◌, false, true, ℕ, ◌<◌, ◌≤◌};
 ghost use Rattle.comparison.specs.internal.Equations.{
   Bound,
@@ -17,7 +17,7 @@ ghost use Rattle.comparison.specs.internal.Equations.{
 };
 ghost use Rattle.comparison_search.specs.internal.Rewriting.{Rewritten, Summed};
 
-use words::{has, odd, single, smallest, without_smallest};
+use words::{has, odd, smallest, without_smallest};
 
 // The sum of two equations.
 fn add(e: [u64; 4], f: [u64; 4]) -> [u64; 4]
@@ -87,7 +87,7 @@ fn add_rows(table: &[[u64; 4]; 256], marked: u64, l: usize, e: [u64; 4]) -> [u64
 }
 
 // Stores an equation, or a sum of it with stored ones, at the place of its last unknown, or nothing.
-pub fn store(table: &mut [[u64; 4]; 256], e: [u64; 4])
+fn store(table: &mut [[u64; 4]; 256], e: [u64; 4])
     requires { Triangular (equations_in table.old) }
     ensures { Inserted (equations_in table.old) (equation_of e) (equations_in table.new) }
 {
@@ -113,102 +113,43 @@ fn has_unknown(e: [u64; 4], i: usize) -> bool
     has(e[i % 4], i / 4)
 }
 
-// Equation i added to those after it whose last unknown is unknown m of a marked qubit and that have unknown i.
-fn clear(table: &mut [[u64; 4]; 256], i: usize, m: usize, marked: u64)
-    requires { Triangular (equations_in table.old) × (i < 256) × (m < 4) }
+// Equation i added to those after it, up to an end, that have unknown i.
+fn clear(table: &mut [[u64; 4]; 256], i: usize, end: usize)
+    requires { Triangular (equations_in table.old) × (i < 256) × (end ≤ 256) }
     ensures { Rewritten (equations_in table.old) (equations_in table.new) }
 {
     let p = table[i];
-    let mut rest = marked;
-    while rest != 0 {
-        let q = smallest(rest);
-        let k = 4 * q + m;
+    let mut k = i + 1;
+    while k < end {
         let e = table[k];
-        if (i < k) & has_unknown(e, i) {
+        if has_unknown(e, i) {
             table[k] = add(e, p);
         }
-        rest = without_smallest(rest);
+        k += 1;
     }
 }
 
-// The places at which a table has equations, as the unknowns of an equation, and the unknowns that some of them have.
-// Nothing but the time depends on it.
-#[derive(Drop)]
-pub struct Marks {
-    pub stored: [u64; 4],
-    pub used: [u64; 4],
-}
-
-// The marks of a table without equations.
-pub fn no_marks() -> Marks {
-    Marks {
-        stored: [0, 0, 0, 0],
-        used: [0, 0, 0, 0],
-    }
-}
-
-// The marks after an equation was stored at place i.
-fn marked(marks: Marks, e: [u64; 4], i: usize) -> Marks
-    requires { i < 256 }
-{
-    let mut stored = marks.stored;
-    let l = i % 4;
-    stored[l] = stored[l] | single(i / 4);
-    let used = marks.used;
-    Marks {
-        stored,
-        used: [
-            used[0] | e[0],
-            used[1] | e[1],
-            used[2] | e[2],
-            used[3] | e[3],
-        ],
-    }
-}
-
-// Equation i added to all that have unknown i, where there may be such.
-fn clear_all(table: &mut [[u64; 4]; 256], i: usize, marks: Marks)
-    requires { Triangular (equations_in table.old) × (i < 256) }
-    ensures { Rewritten (equations_in table.old) (equations_in table.new) }
-{
-    let used = marks.used;
-    if !has_unknown(used, i) {
-        return;
-    }
-    let stored = marks.stored;
-    let later = 0xFFFF_FFFF_FFFF_FFFF << (i / 4);
-    clear(table, i, 0, stored[0] & later);
-    clear(table, i, 1, stored[1] & later);
-    clear(table, i, 2, stored[2] & later);
-    clear(table, i, 3, stored[3] & later);
-}
-
-// Adds an equation on n qubits to the table. From 8 qubits on no other equation of the table has the last unknown of
-// one, so that at most one for each unknown is to be added to what comes; on fewer that costs more than it saves.
-// Nothing but the time depends on it.
-pub fn insert(table: &mut [[u64; 4]; 256], n: usize, marks: Marks, e: [u64; 4]) -> Marks
-    requires { Triangular (equations_in table.old) }
+// Adds an equation on n qubits to the table. From 8 qubits on no other equation of the table has the last unknown of one,
+// so that at most one for each unknown is to be added to what comes; on fewer that costs more than it saves. Nothing but the
+// time depends on it.
+pub fn insert(table: &mut [[u64; 4]; 256], n: usize, e: [u64; 4])
+    requires { (n ≤ 64) × Triangular (equations_in table.old) }
     ensures { Inserted (equations_in table.old) (equation_of e) (equations_in table.new) }
 {
-    if empty(e) {
-        return marks;
-    }
     if n < 8 {
         store(table, e);
-        return marks;
+        return;
     }
-    let stored = marks.stored;
-    let a = add_rows(table, e[0] & stored[0], 0, e);
-    let b = add_rows(table, e[1] & stored[1], 1, a);
-    let c = add_rows(table, e[2] & stored[2], 2, b);
-    let left = add_rows(table, e[3] & stored[3], 3, c);
+    let a = add_rows(table, e[0], 0, e);
+    let b = add_rows(table, e[1], 1, a);
+    let c = add_rows(table, e[2], 2, b);
+    let left = add_rows(table, e[3], 3, c);
     let i = bound(left);
     if i == 0 {
-        return marks;
+        return;
     }
     store(table, left);
-    clear_all(table, i - 1, marks);
-    marked(marks, left, i - 1)
+    clear(table, i - 1, 4 * n);
 }
 
 // Whether an equation of qubit q fails: one whose last unknown is of qubit q.

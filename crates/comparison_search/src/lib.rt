@@ -12,8 +12,7 @@ mod tables;
 
 ghost use Rattle.std.specs.Prelude.{◌≤◌};
 ghost use Rattle.comparison.specs.Choices.{class_key, sign_key};
-ghost use Rattle.comparison.specs.internal.Equations.{EmptyFrom, Triangular, equations_in};
-ghost use Rattle.comparison.specs.internal.Equations.{class_assignment, sign_assignment};
+ghost use Rattle.comparison.specs.internal.Equations.{EmptyFrom, Triangular, class_assignment, sign_assignment, equations_in};
 ghost use Rattle.comparison.specs.internal.Searches.{ClassesAnswered, Extendable, LeastAnswer, SignsChosen};
 ghost use Rattle.comparison.specs.internal.Setting.{
   Codes,

@@ -1,13 +1,12 @@
 // The tables of what every choice that works must satisfy.
 ghost use Rattle.std.specs.Prelude.{List, ◌≡◌, ℕ, ◌+◌, ◌≤◌, get_or};
 ghost use Rattle.clifford.specs.Vectors.{codes_of};
-ghost use Rattle.comparison.specs.internal.Equations.{EmptyFrom, Triangular, class_equation};
-ghost use Rattle.comparison.specs.internal.Equations.{equation_of, equations_in, sign_equation};
+ghost use Rattle.comparison.specs.internal.Equations.{EmptyFrom, Triangular, class_equation, equation_of, equations_in, sign_equation};
 ghost use Rattle.comparison.specs.internal.Setting.{NoSigns, Codes, Setting, generators_in, no_generator};
 ghost use Rattle.comparison.specs.internal.Searches.{ClassTable, SentUpToSign, SignTable};
 
 use crate::elements::element;
-use crate::equations::{Marks, insert, no_marks, store};
+use crate::equations::insert;
 use crate::rows::generator_at;
 use clifford_impl::rows::{act_on, action_of};
 use pauli::Generator;
@@ -28,28 +27,19 @@ fn sign_equation(g: Generator, sum: bool) -> [u64; 4]
 }
 
 // The equations of one generator of the first group with all of the second.
-fn class_rows(
-    table: &mut [[u64; 4]; 256],
-    n: usize,
-    marks: Marks,
-    g: Generator,
-    second: &[[u64; 3]; 64],
-) -> Marks
+fn class_rows(table: &mut [[u64; 4]; 256], n: usize, g: Generator, second: &[[u64; 3]; 64])
     requires { (n ≤ 64) × Triangular (equations_in table.old) }
     ensures { (first : List Generator) (i : ℕ) → g ≡ get_or first i no_generator
         → ClassTable n first (generators_in second.now) i 0 (equations_in table.old)
         → ClassTable n first (generators_in second.now) (i + 1) 0 (equations_in table.new) }
 {
-    let mut held = marks;
     let mut j = 0;
     while j < n {
         let h = generator_at(second, j);
         let e = class_equation(g, h);
-        let next = insert(table, n, held, e);
-        held = next;
+        insert(table, n, e);
         j += 1;
     }
-    held
 }
 
 // The class equations put into an empty table.
@@ -63,12 +53,10 @@ pub fn class_table(
     ensures { ClassTable n (generators_in first.now) (generators_in second.now) n 0
         (equations_in table.new) }
 {
-    let mut marks = no_marks();
     let mut i = 0;
     while i < n {
         let g = generator_at(first, i);
-        let next = class_rows(table, n, marks, g, second);
-        marks = next;
+        class_rows(table, n, g, second);
         i += 1;
     }
 }
@@ -98,7 +86,7 @@ pub fn sign_table(
         let p = act_on(g, by);
         let h = element(n, second, undone, p);
         let e = sign_equation(g, p.minus ^ h.minus);
-        store(table, e);
+        insert(table, n, e);
         i += 1;
     }
 }

@@ -54,8 +54,8 @@ fn graph_element(neighbours: &[u64], chosen: u64) -> Row
     element
 }
 
-// The element beside the row that was sent back: 2 where their letters differ; else 0 where the signs are equal, 1
-// where they are not.
+// The element beside the row that was sent back: 2 where their letters differ; else 0 where the signs are equal, 1 where
+// they are not.
 fn read(element: Row, row: Generator) -> u8
     ensures { result ≡ read_value element row }
 {

@@ -40,7 +40,7 @@ fall-alone n S v l e =
     ∙ ap (λ b. count n (put S.C v false) + digit b) (sym cv)
     ∙ count-put n S.C v false l ∙ add-zero _
 
--- what a pair is
+-- what a pivot_move is
 pub record IsPair (S : State) (j k : ℕ) : Type 0 where
   pub above : j < k
   pub edge : S.graph j k ≡ true

@@ -1,6 +1,6 @@
--- The whole run of the image rule: it stops, and 2 · count ≤ 3 n.
+-- The whole moves_upto of the image rule: it stops, and 2 · count ≤ 3 n.
 use mathlib.Core.Bool.{false}
-use mathlib.Core.List.{◌++◌, List, []}
+use mathlib.Core.List.{◌++◌, List, [], ◌∷◌}
 use mathlib.Core.Logic.{inl, inr, ◌⊎◌}
 use mathlib.Core.Path.{ap, refl, subst, sym, ◌∙◌, ◌≡◌}
 use Prim.Native.Nat.{◌*◌, ◌+◌, ◌<◌, suc, suc-le-suc, zero, ℕ, ◌≤◌}
@@ -11,7 +11,7 @@ use Rattle.cut.proofs.Counting.{count-upto}
 use Rattle.cut.specs.Kernel.{count}
 use Rattle.record.proofs.Complement.{complement-simple}
 use Rattle.record.specs.Graph.{Simple}
-use Rattle.record.proofs.ComplementLists.{VerticesBelow, add, each_append, each_keeps, nil}
+use Rattle.record.proofs.ComplementLists.{VerticesBelow, add, nil}
 use Rattle.image.proofs.Falling.{fall-alone, fall-joined, pair_is}
 use Rattle.image.proofs.Moves.{Move, alone, joined, moves-are, moves-unique, stop}
 use Rattle.image.specs.Rule.{State, both, follow, moves, pivot_move, moves_upto, complemented_at}
@@ -36,11 +36,15 @@ below_at nil i l = absurd (not-suc-le-zero l)
 below_at (add v h w) zero l = h
 below_at (add v h w) (suc i) (suc-le-suc l) = below_at w i l
 
--- ---- the graph stays simple
-follow-simple : (n : ℕ) (S : State) → Simple n S.graph → (ms : List ℕ) → Simple n (follow S ms).graph
+-- ---- lists followed one after another
+pub follow-append : (S : State) (a b : List ℕ) → follow S (a ++ b) ≡ follow (follow S a) b
+follow-append S [] b = refl
+follow-append S (v ∷ a) b = follow-append (complemented_at S v) a b
+
+pub follow-simple : (n : ℕ) (S : State) (ms : List ℕ) → Simple n S.graph → Simple n (follow S ms).graph
 unfolding complemented_at
-follow-simple n =
-    each_keeps complemented_at (λ S. Simple n S.graph) (λ S G v. complement-simple n S.graph G v)
+follow-simple n S [] G = G
+follow-simple n S (v ∷ ms) G = follow-simple n (complemented_at S v) ms (complement-simple n S.graph G v)
 
 -- ---- how many complementations: each single one takes one C away, each triple two
 abbrev Fall : ℕ → State → List ℕ → Type 0
@@ -61,15 +65,15 @@ run-fall n (suc k) S G =
       arith,
       length-append ms (moves_upto n k (follow S ms)),
       move-fall n S G (moves-are n S),
-      run-fall n k (follow S ms) (follow-simple n S G ms),
-      ap (λ T. count n T.C) (each_append complemented_at S ms (moves_upto n k (follow S ms))),
+      run-fall n k (follow S ms) (follow-simple n S ms G),
+      ap (λ T. count n T.C) (follow-append S ms (moves_upto n k (follow S ms))),
     )
 
 -- so the list has at most 3 n / 2 places: 96 where n is 64
 pub run_length : (n k : ℕ) (S : State) → Simple n S.graph → 2 * length (moves_upto n k S) ≤ 3 * n
 run_length n k S G = omega (arith, run-fall n k S G, count-upto n S.C)
 
--- ---- the run comes to a stop: no vertex has both bits 1, and no pair is left
+-- ---- the moves_upto comes to a stop: no vertex has both bits 1, and no pivot_move is left
 pub record Stopped (n : ℕ) (S : State) : Type 0 where
   pub no_both : (v : ℕ) → v < n → both S v ≡ false
   pub no-pair : (j k : ℕ) → j < n → k < n → pivot_move S j k ≡ false
@@ -102,7 +106,7 @@ run-stops n zero S G h = elim (move-lower n S G (moves-are n S)) [
   | inr l ↦ absurd (omega arith)
 ]
 run-stops n (suc k) S G h =
-    go (run-stops n k (follow S (moves n S)) (follow-simple n S G (moves n S))) (move-lower n S G (moves-are n S))
+    go (run-stops n k (follow S (moves n S)) (follow-simple n S (moves n S) G)) (move-lower n S G (moves-are n S))
   where
     go : (count n (follow S (moves n S)).C ≤ k →
         Stopped n (follow (follow S (moves n S)) (moves_upto n k (follow S (moves n S)))))
@@ -110,5 +114,5 @@ run-stops n (suc k) S G h =
         → Stopped n (follow S (moves_upto n (suc k) S))
     go ih (inl e) = at-stop n (suc k) S e
     go ih (inr l) =
-        subst (Stopped n) (sym (each_append complemented_at S (moves n S) (moves_upto n k (follow S (moves n S)))))
+        subst (Stopped n) (sym (follow-append S (moves n S) (moves_upto n k (follow S (moves n S)))))
         (ih (omega arith))

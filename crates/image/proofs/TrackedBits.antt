@@ -1,6 +1,6 @@
 -- The bits that the image rule follows are the bits of the rewritten codes, and the record keeps its group.
 use mathlib.Core.Bool.{◌&&◌, Bool, cond, false, true, true≢false}
-use mathlib.Core.List.{List}
+use mathlib.Core.List.{◌++◌, List, [], ◌∷◌}
 use mathlib.Core.Path.{ap, fun_ext, refl, subst, sym, ◌∙◌, ◌≡◌}
 use Prim.Native.Nat.{◌*◌, ℕ, ◌≤◌}
 use native.Mathlib.Decide.{ℕ_discrete}
@@ -12,7 +12,7 @@ use Rattle.clifford.specs.Clifford.{Clifford, bit_c, bit_d, clifford_of, then}
 use Rattle.record.proofs.Complement.{complement-simple}
 use Rattle.record.proofs.GraphGroups.{no_loop}
 use Rattle.record.specs.Graph.{Simple, complement}
-use Rattle.record.proofs.ComplementLists.{complement-all-same, complement-all-simple, each_seen}
+use Rattle.record.proofs.ComplementLists.{complement-all-same, complement-all-simple}
 use Rattle.record.specs.Records.{GraphRecord, complement_all, complement_record, rows_of}
 use Rattle.stabilizer.specs.Groups.{SameGroup}
 use Rattle.words.proofs.Finite.{bits}
@@ -80,10 +80,17 @@ bits-follow n r G v = λ i. record { graph = complement r.graph v; C = fun_ext a
     at-D q = go_d (eqb q v) (r.graph v q) (r.codes q) (no_loop n r.graph G v q)
 
 -- ---- complementing at each vertex of a list
-pub all-bits : (n : ℕ) (r : GraphRecord) → Simple n r.graph → (vs : List ℕ)
-    → state_of (complement_all r vs) ≡ follow (state_of r) vs
-all-bits n = each_seen complement_record (λ r. Simple n r.graph) (λ r G v. complement-simple n r.graph G v)
-    complemented_at state_of (bits-follow n)
+pub all_append : (r : GraphRecord) (a b : List ℕ)
+    → complement_all r (a ++ b) ≡ complement_all (complement_all r a) b
+all_append r [] b = refl
+all_append r (v ∷ a) b = all_append (complement_record r v) a b
+
+pub all-bits : (n : ℕ) (r : GraphRecord) (vs : List ℕ) → Simple n r.graph →
+    state_of (complement_all r vs) ≡ follow (state_of r) vs
+all-bits n r [] G = refl
+all-bits n r (v ∷ vs) G =
+    all-bits n (complement_record r v) vs (complement-simple n r.graph G v)
+    ∙ ap (λ S. follow S vs) (bits-follow n r G v)
 
 -- ---- the record that the image rule ends with
 module _ (n : ℕ) (r : GraphRecord) (G : Simple n r.graph) where
@@ -96,7 +103,7 @@ module _ (n : ℕ) (r : GraphRecord) (G : Simple n r.graph) where
 
   -- its bits are those that the rule followed
   pub image-bits : state_of (image_record n r) ≡ follow (state_of r) (image_list n r)
-  image-bits = all-bits n r G (image_list n r)
+  image-bits = all-bits n r (image_list n r) G
 
   -- and the rule has come to its stop there
   pub image-stopped : Stopped n (state_of (image_record n r))

@@ -1,7 +1,7 @@
 -- The image rule: which vertices are complemented, one after another, when codes are applied to a graph.
 use Rattle.std.specs.Prelude.{◌&&◌, Bool, cond, not, ◌++◌, List, [], ◌∷◌, suc, zero, ℕ, ltb}
 use Rattle.clifford.specs.Clifford.{bit_c, bit_d}
-use Rattle.record.specs.Graph.{Graph, at_each, complement}
+use Rattle.record.specs.Graph.{Graph, complement}
 use Rattle.record.specs.Records.{GraphRecord}
 use Rattle.words.specs.Bits.{Word, put, ◌⊕◌}
 use Rattle.words.specs.Search.{first, some}
@@ -29,7 +29,8 @@ complemented_at S v =
 
 -- complementing at each vertex of a list, one after another
 abbrev pub follow : State → List ℕ → State
-follow = at_each complemented_at
+follow S [] = S
+follow S (v ∷ vs) = follow (complemented_at S v) vs
 
 -- ---- the next complementations
 -- "whose two bits are both 1"
@@ -44,7 +45,7 @@ only_c S v = S.C v && not (S.D v)
 abbrev pub pivot_move : State → ℕ → ℕ → Bool
 pivot_move S j k = ltb j k && (S.graph j k && (only_c S j && only_c S k))
 
--- whether some k forms such a pair with j
+-- whether some k forms such a pivot_move with j
 abbrev pub has_pair : ℕ → State → ℕ → Bool
 has_pair n S j = some n (pivot_move S j)
 

@@ -1,4 +1,4 @@
-// The image rule on words, the image graph, its signs and the list of complementations.
+// The image rule on words, the image graph, its signs and the list of moves.
 pub mod answer;
 mod complementing;
 mod image_loop;

@@ -23,7 +23,7 @@ op-back Pivot = refl
 op-back Observe = refl
 op-back Renew = refl
 
--- ---- listed steps
+-- ---- steps_below steps
 listed-long : (n : ℕ) (f : ℕ → Step) → length (steps_below n f) ≡ n
 unfolding steps_below
 listed-long zero f = refl

@@ -53,7 +53,8 @@ AfterOperation n G (complement_of a) = G
 AfterOperation n G (pivot_of j k) = G
 
 -- what an accepted step asks: the bit of an observation plays no part where the group determines the outcome; a renewal
--- keeps "the elements with I at the qubit, joined by that Pauli with its sign"
+-- keeps
+-- "the elements with I at the qubit, joined by that Pauli with its sign"
 abbrev pub AfterRequest : ℕ → Group → Request → Group
 AfterRequest n G (carry_out o) = AfterOperation n G o
 AfterRequest n G (observation_of pauli q b) = AfterMeasurement n G (pauli_letter pauli) q (is_odd b)

@@ -1,4 +1,4 @@
-// The operations as texts write them.
+// The text of a job, the scan of it, and the text of its results: see specs/ and proofs/.
 ghost use Rattle.std.specs.Prelude.{◌≡◌};
 ghost use Rattle.jobs.specs.internal.Scan.{letters};
 

@@ -91,8 +91,7 @@ pub fn unused_set(op: Op, b: u16, value: u16) -> bool
     (without_b(op) & (b != 0)) | (without_value(op) & (value != 0))
 }
 
-// Whether the value is no code, or for a measurement no Pauli and outcome. Of a renewal's code its parity is not looked
-// at.
+// Whether the value is no code, or for a measurement no Pauli and outcome. Of a renewal's code its parity is not looked at.
 pub fn wrong_value(op: Op, value: u16) -> bool
     ensures { result ≡ wrong_value op value }
 {

@@ -1,8 +1,7 @@
-// Reads the text of a job in blocks of any size. A scan is a few numbers; the first 4,096 steps are kept together
-// beside it, each with its operation, qubits and value.
+// Reads the text of a job in blocks of any size. A scan is a few numbers; the first 4,096 steps are kept together beside
+// it, each with its operation, qubits and value.
 ghost use Rattle.std.specs.Prelude.{◌≡◌};
-ghost use Rattle.jobs.specs.internal.Scan.{as_reading, at_line, begin, empty, fed};
-ghost use Rattle.jobs.specs.internal.Scan.{head_step, moved, scan_byte, step_of, verdict};
+ghost use Rattle.jobs.specs.internal.Scan.{as_reading, at_line, begin, empty, fed, head_step, moved, scan_byte, step_of, verdict};
 
 use crate::field_words::word_step;
 use crate::fields::{first_step, more_step};
@@ -110,8 +109,8 @@ fn step_of(s: Scan) -> Step
     }
 }
 
-// What is read after a block more. Where a byte ends one of the first 4,096 steps, that step is kept behind those
-// before it.
+// What is read after a block more. Where a byte ends one of the first 4,096 steps, that step is kept behind those before
+// it.
 pub fn read_block(from: Reading, block: &[u8]) -> Reading
     ensures { as_reading result.scan result.steps ≡ fed (as_reading from.scan from.steps)
         block.now }

@@ -18,14 +18,13 @@ use Rattle.buffers.specs.Calls.{Call}
 use Rattle.text_replies.proofs.Answering.{number_is, number_small}
 use Rattle.text_replies.specs.internal.Places.{Lent, list_at}
 use Rattle.operations.specs.internal.InPlace.{Unrefused, record_in}
-use Rattle.operations.specs.internal.ReducedForms.{ReducedForm}
 use Rattle.jobs.specs.Table.{table_text}
-use Rattle.record.specs.Lent.{code_numbers, held_record, held_rows, neighbour_words}
+use Rattle.record.specs.Lent.{code_numbers, held_rows, neighbour_words}
 use Rattle.record.specs.Reduced.{reduced}
 use Rattle.stabilizer.proofs.Accepted.{AcceptedList, accepted-list}
 use Rattle.stabilizer.specs.Lists.{GeneratorList, rows}
 use Rattle.text.specs.Text.{refused_text}
-use Rattle.jobs_replies.proofs.ReducedBuffers.{buffers-form, buffers-plottable, buffers-unrefused, points-same}
+use Rattle.jobs_replies.proofs.ReducedBuffers.{buffer-length, buffers-plottable, buffers-unrefused, points-same}
 use Rattle.calls.specs.PlotAnswers.{plot_answer, plot_lines}
 use Rattle.jobs_replies.specs.internal.Rooms.{RoomFor}
 
@@ -43,7 +42,7 @@ places-plotted n few signs z x =
     ap (λ k. plot_answer (record { n = n; signs = take k signs; z = take k z; x = take k x }))
     (sym (min-eq_left {n = n} {m = 64} (omega (arith, few))))
 
-module _ (l : GeneratorList) (nb cs out : List ℕ) (W : RoomFor l.n nb cs out) where
+module _ (l : GeneratorList) (nb cs words bytes out : List ℕ) (W : RoomFor l.n nb cs words bytes out) where
   lent : Lent l.n nb cs out
   lent =
       record {
@@ -83,12 +82,12 @@ module _ (l : GeneratorList) (nb cs out : List ℕ) (W : RoomFor l.n nb cs out) 
       codes-are : cs' ≡ code_numbers l.n (reduced l.n (rows l))
       codes-are = (written_all C z).1.0
 
+      pub reduced-length : length nb' ≡ l.n
+      reduced-length =
+          buffer-length l.n (rows l) A.proper A.formed.positive A.formed.upto nb' cs' words_are codes-are
+
       pub reduced-unrefused : Unrefused (record_in nb' cs')
       reduced-unrefused = buffers-unrefused l.n (rows l) A.proper A.formed.positive A.formed.upto nb' cs'
-          words_are codes-are
-
-      pub reduced-form : ReducedForm (length nb') (held_record (record_in nb' cs'))
-      reduced-form = buffers-form l.n (rows l) A.proper A.formed.positive A.formed.upto nb' cs'
           words_are codes-are
 
       pub reduced-plottable : (low : ℕ) → low ≡ lowest (length nb') (held_rows (record_in nb' cs'))

@@ -22,7 +22,7 @@ use Rattle.stabilizer.specs.Groups.{Proper}
 
 module _ (n : ℕ) (R : ℕ → Pauli) (P : Proper n R) (positive : 1 ≤ n) (upto : n ≤ 64) (words codes : List ℕ)
     (e : words ≡ neighbour_words n (reduced n R)) (f : codes ≡ code_numbers n (reduced n R)) where
-  buffer-length : length words ≡ n
+  pub buffer-length : length words ≡ n
   buffer-length = ap length e ∙ tabulate-length n _
 
   are_written : record_in words codes ≡ written_record n (reduced n R)
@@ -37,16 +37,13 @@ module _ (n : ℕ) (R : ℕ → Pauli) (P : Proper n R) (positive : 1 ≤ n) (up
   held-reduced = ap held_record are_written
       ∙ record-path (held_record (written_record n (reduced n R))) (reduced n R) (reduced-back n R P)
 
-  pub buffers-form : ReducedForm (length words) (held_record (record_in words codes))
-  buffers-form = subst (λ m. ReducedForm m (held_record (record_in words codes))) (sym buffer-length)
-      (subst (ReducedForm n) (sym held-reduced) (form-of-reduced n R P))
-
   pub buffers-plottable : (low : ℕ) → low ≡ lowest (length words) (held_rows (record_in words codes))
       → Plottable words codes low
   buffers-plottable low s =
       record {
         unrefused = buffers-unrefused;
-        form = buffers-form;
+        form = subst (λ m. ReducedForm m (held_record (record_in words codes))) (sym buffer-length)
+            (subst (ReducedForm n) (sym held-reduced) (form-of-reduced n R P));
         smallest = s;
       }
 

@@ -11,7 +11,6 @@ ghost use Rattle.jobs_replies.specs.internal.Room.{Fresh, result_in};
 ghost use Rattle.jobs_replies.specs.Room.{lines_room, longest_job};
 
 use call_run::lent::{run_steps, settle_last};
-use clifford_impl::compositions::composition_table;
 use jobs::Step;
 use jobs_impl::printing::{print_result, print_result_names};
 use jobs_impl::scanning::{Reading, judge};
@@ -33,8 +32,8 @@ fn print_results(count: usize, answers: &[u8], out: &mut [u8]) -> usize
     at
 }
 
-// The first steps, lent to the runner, on a record that no line refuses. What step k answers is kept at place k, and
-// the used word after the last is the result.
+// The first steps, lent to the runner, on a record that no line refuses. What step k answers is kept at place k, and the used
+// word after the last is the result.
 fn run(
     n: u64,
     neighbours: &mut [u64],
@@ -49,8 +48,7 @@ fn run(
         answers.old neighbours.new codes.new result
         answers.new }
 {
-    let table = composition_table();
-    let used = run_steps(n, neighbours, codes, 0, steps, count, 0, answers, &table);
+    let used = run_steps(n, neighbours, codes, 0, steps, count, 0, answers);
     settle_last(n, neighbours, codes, used, count, answers);
     used
 }

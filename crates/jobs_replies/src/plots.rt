@@ -13,7 +13,8 @@ use text::scan::Verdict;
 use text_impl::printing::print_refusal;
 use words::single;
 
-// Reduces a list of at most 10 generators and prints the table of its amplitudes, or the refusal's number.
+// Reduces a list of at most 10 generators and prints the table of its amplitudes, or the refusal's number; words and
+// bytes are room for a copy of the record.
 fn print_plot(
     n: usize,
     signs: &[u8],
@@ -21,9 +22,11 @@ fn print_plot(
     x: &[u64],
     neighbours: &mut [u64],
     codes: &mut [u8],
+    words: &mut [u64],
+    bytes: &mut [u8],
     out: &mut [u8],
 ) -> usize
-    requires { RoomFor n neighbours.old codes.old out.old }
+    requires { RoomFor n neighbours.old codes.old words.old bytes.old out.old }
     ensures { Printed
         (plot_answer (record { n = n; signs = signs.now; z = z.now; x = x.now }))
         0 out.old out.new result }
@@ -32,7 +35,7 @@ fn print_plot(
     if number != 0 {
         return print_refusal(number, out);
     }
-    let low = lowest(neighbours, codes);
+    let low = lowest(neighbours, codes, words, bytes);
     print_table(neighbours, codes, low, single(n), out)
 }
 
@@ -46,6 +49,8 @@ fn plot_answer(n: usize, signs: [u8; 64], z: [u64; 64], x: [u64; 64], out: &mut 
     }
     let mut neighbours = [0u64; 10];
     let mut codes = [0u8; 10];
+    let mut words = [0u64; 10];
+    let mut bytes = [0u8; 10];
     print_plot(
         n,
         &signs[..n],
@@ -53,6 +58,8 @@ fn plot_answer(n: usize, signs: [u8; 64], z: [u64; 64], x: [u64; 64], out: &mut 
         &x[..n],
         &mut neighbours[..n],
         &mut codes[..n],
+        &mut words[..n],
+        &mut bytes[..n],
         out,
     )
 }

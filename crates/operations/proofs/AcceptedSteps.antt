@@ -53,9 +53,9 @@ use Rattle.words.specs.Bits.{is_odd}
 
 module _ (l : LentRecord) where
   -- the lines of the record, the further test of line 6, and the lines after them
-  split : (six : Bool) (rest : List Refusal) → first_fitting (record_lines l false six ++ rest) ≡ 0
+  parted : (six : Bool) (rest : List Refusal) → first_fitting (record_lines l false six ++ rest) ≡ 0
       → AcceptedRecord l × (six ≡ false) × (first_fitting rest ≡ 0)
-  split six rest e =
+  parted six rest e =
       let h = none-of-all (record_lines l false six) rest (record-numbered l false six) e in
       let h4 = not-held 3 _ _ (not-held 1 _ _ h.0).1 in
       let h6 = not-held 5 _ _ (not-held 4 _ _ h4.1).1 in
@@ -63,33 +63,33 @@ module _ (l : LentRecord) where
 
   -- no line holds of the record
   pub accepted-step : (o : Operation) → first_fitting (lines_of l o) ≡ 0 → AcceptedRecord l
-  accepted-step (gate_with q k) e = (split (leb 24 k) _ e).0
-  accepted-step (cz_on a b) e = (split false _ e).0
-  accepted-step (measurement_of pauli q b) e = (split (leb 2 b || (eqb pauli 0 || leb 4 pauli)) _ e).0
-  accepted-step (complement_of a) e = (split false _ e).0
-  accepted-step (pivot_of j k) e = (split false _ e).0
+  accepted-step (gate_with q k) e = (parted (leb 24 k) _ e).0
+  accepted-step (cz_on a b) e = (parted false _ e).0
+  accepted-step (measurement_of pauli q b) e = (parted (leb 2 b || (eqb pauli 0 || leb 4 pauli)) _ e).0
+  accepted-step (complement_of a) e = (parted false _ e).0
+  accepted-step (pivot_of j k) e = (parted false _ e).0
 
   -- nor of the arguments
   pub gate-arguments : (q k : ℕ) → first_fitting (lines_of l (gate_with q k)) ≡ 0 → q < l.n
-  gate-arguments q k e = leb-false l.n q (not-held 7 _ _ (split (leb 24 k) _ e).2).0
+  gate-arguments q k e = leb-false l.n q (not-held 7 _ _ (parted (leb 24 k) _ e).2).0
 
   pub cz-arguments : (a b : ℕ) → first_fitting (lines_of l (cz_on a b)) ≡ 0 → (a < l.n) × (b < l.n) × (a ≢ b)
   cz-arguments a b e =
-      let h = neither (leb l.n a) _ (not-held 7 _ _ (split false _ e).2).0 in
+      let h = neither (leb l.n a) _ (not-held 7 _ _ (parted false _ e).2).0 in
       let k = neither (leb l.n b) _ h.1 in
       (leb-false l.n a h.0, leb-false l.n b k.0, eqb-false a b k.1)
 
   pub complement-arguments : (a : ℕ) → first_fitting (lines_of l (complement_of a)) ≡ 0 → a < l.n
-  complement-arguments a e = leb-false l.n a (not-held 7 _ _ (split false _ e).2).0
+  complement-arguments a e = leb-false l.n a (not-held 7 _ _ (parted false _ e).2).0
 
   pivot-arguments : (j k : ℕ) → first_fitting (lines_of l (pivot_of j k)) ≡ 0 → (j < l.n) × (k < l.n)
   pivot-arguments j k e =
-      let h = neither (leb l.n j) _ (not-held 7 _ _ (split false _ e).2).0 in
+      let h = neither (leb l.n j) _ (not-held 7 _ _ (parted false _ e).2).0 in
       (leb-false l.n j h.0, leb-false l.n k (neither (leb l.n k) _ h.1).0)
 
   pub pivot-edge : (j k : ℕ) → first_fitting (lines_of l (pivot_of j k)) ≡ 0 → (held_record l).graph j k ≡ true
   pivot-edge j k e =
-      let h = neither (leb l.n j) _ (not-held 7 _ _ (split false _ e).2).0 in
+      let h = neither (leb l.n j) _ (not-held 7 _ _ (parted false _ e).2).0 in
       let t = neither (eqb j k) _ (neither (leb l.n k) _ h.1).1 in
       not-false ((held_record l).graph j k) t.1
 
@@ -103,7 +103,7 @@ module _ (l : LentRecord) where
   pub measure-arguments : (pauli q b : ℕ) → first_fitting (lines_of l (measurement_of pauli q b)) ≡ 0
       → MeasureArguments pauli q b
   measure-arguments pauli q b e =
-      let h = split (leb 2 b || (eqb pauli 0 || leb 4 pauli)) _ e in
+      let h = parted (leb 2 b || (eqb pauli 0 || leb 4 pauli)) _ e in
       let six = neither (leb 2 b) _ h.1 in
       let paulis = neither (eqb pauli 0) _ six.1 in
       let h8 = not-held 7 _ _ h.2 in

@@ -71,10 +71,10 @@ module _ (n : ℕ) (r : GraphRecord) (S : Simple n r.graph) (a b : ℕ) (ha : a 
   own e he K = element-own n r S e he K
 
   a-b : ga.x b ≡ false
-  a-b = element-other n r S a b ha hb ab P.second P.separate
+  a-b = element-other n r S a b ha hb ab P.second P.parted
 
   b-a : gb.x a ≡ false
-  b-a = element-other n r S b a hb ha (λ d. ab (sym d)) P.first (λ f e. S.symmetric b a ∙ P.separate e f)
+  b-a = element-other n r S b a hb ha (λ d. ab (sym d)) P.first (λ f e. S.symmetric b a ∙ P.parted e f)
 
   -- ---- a generator afterwards
   gated-z : (v : Bool) (w : Word) → act n c (zs (λ q. v && w q)) ≡ chosen v (act n c (zs w))

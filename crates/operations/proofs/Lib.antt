@@ -11,12 +11,9 @@ pub mod FormOfReduced
 pub mod Gating
 pub mod GroupAlone
 pub mod Homomorphisms
-pub mod InPlaceLines
 pub mod Isolation
 pub mod Keeping
-pub mod KnownRecords
 pub mod LeftRecords
-pub mod MeasureLines
 pub mod MeasuredRecords
 pub mod MeasuringMarks
 pub mod OutOfPlace
@@ -32,7 +29,6 @@ pub mod StayingAlone
 pub mod Totals
 pub mod UnrefusedRecords
 pub mod UsedExamples
-pub mod UsedInPlace
 pub mod UsedInWords
 pub mod UsedPassing
 pub mod UsedRefusing

@@ -152,11 +152,11 @@ module _ (n : ℕ) (rows : ℕ → Pauli) (L : Proper n rows) (P : Pauli) (signe
     element-commutes = ap (λ q. anticommute n q P) (same-product without off) ∙ word-at-g without ∙ off
 
     -- the word is that word, and g where it has g
-    split : (j : ℕ) → Dec (j ≡ g) → w j ≡ without j ⊕ (eqb j g && w g)
+    parted : (j : ℕ) → Dec (j ≡ g) → w j ≡ without j ⊕ (eqb j g && w g)
     unfolding without
-    split j (yes q) = subst (λ v. w v ≡ without v ⊕ (eqb v g && w g)) (sym q)
+    parted j (yes q) = subst (λ v. w v ≡ without v ⊕ (eqb v g && w g)) (sym q)
         (sym (ap₂ (λ a b. a ⊕ (b && w g)) off (same_place g)))
-    split j (no d) = sym (ap₂ (λ a b. a ⊕ (b && w g)) (put_other w g false j d) (other_place d)
+    parted j (no d) = sym (ap₂ (λ a b. a ⊕ (b && w g)) (put_other w g false j d) (other_place d)
         ∙ ⊕-zero (w j))
 
     at_g : product n n (λ j. eqb j g && w g) N ≡ chosen (w g) P
@@ -166,7 +166,7 @@ module _ (n : ℕ) (rows : ℕ → Pauli) (L : Proper n rows) (P : Pauli) (signe
 
     whole : product n n w N ≡ mul n element (chosen (w g) P)
     unfolding element
-    whole = ap (λ v. product n n v N) (fun_ext λ j. split j (ℕ_discrete j g))
+    whole = ap (λ v. product n n v N) (fun_ext λ j. parted j (ℕ_discrete j g))
         ∙ sym (product-mul n n N N-commuting without (λ j. eqb j g && w g)) ∙ ap (mul n element) at_g
 
   measured-out : (p : Pauli) → InGroup n n N p → Measured n rows P p

@@ -211,5 +211,5 @@ form-ready n r S F a b ha hb =
     record {
       first = low-uncrossed (r.codes a) (F.low a ha);
       second = low-uncrossed (r.codes b) (F.low b hb);
-      separate = apart n r S F a b ha hb;
+      parted = apart n r S F a b ha hb;
     }

@@ -103,7 +103,7 @@ module _ (n : ℕ) (r : GraphRecord) (G : Simple n r.graph) where
         falls (pivot_record r j k)
         (omega (
           arith,
-          ap places (ap (λ S. S.C) (all-bits n r G (j ∷ k ∷ j ∷ [])) ∙ C3),
+          ap places (ap (λ S. S.C) (all-bits n r (j ∷ k ∷ j ∷ []) G) ∙ C3),
           total-put (λ q. n - q) n S2.C j false hj,
           ap (λ b. cond b (n - j) 0) C2j,
           ap places C2,

@@ -74,7 +74,8 @@ arguments_of l (complement_of a) = complement_lines l a
 arguments_of l (pivot_of j k) = pivot_lines l j k
 
 -- the new record of an accepted one. "All three answer the reduced record of the new group"; of a complement and a
--- pivot "the answer is the record so rewritten, not reduced"
+-- pivot
+-- "the answer is the record so rewritten, not reduced"
 abbrev pub made : LentRecord → Operation → GraphRecord
 made l (gate_with q k) = reduced l.n (rows_of l.n (gated (held_record l) q (clifford_of k)))
 made l (cz_on a b) = reduced l.n (cz_rows a b (held_rows l))

@@ -1,7 +1,6 @@
 pub mod GraphSteps
 pub mod InPlace
 pub mod KeptGroups
-pub mod Knowing
 pub mod ReadyPairs
 pub mod ReducedForms
 pub mod Sessions

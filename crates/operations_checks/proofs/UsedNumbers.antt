@@ -14,10 +14,13 @@ use Rattle.record.proofs.AcceptedRecords.{accepted-record}
 use Rattle.record.specs.Accepted.{AcceptedRecord}
 use Rattle.record.specs.Lent.{held_record, not_simple, record_codes, record_lengths, record_lines, record_stray}
 use Rattle.stabilizer.proofs.SharedTests.{counted}
-use Rattle.operations.proofs.UsedInPlace.{plain}
 use Rattle.operations.proofs.UsedPassing.{lines-pass}
 use Rattle.operations.specs.Used.{used_lines, UsedRecord, used_record, used_stray, used_wrong}
 use Rattle.words.proofs.Flags.{neither}
+
+-- a flag with two tests of other lines
+plain : {h t : Bool} → h ≡ t → ((h || false) || false) ≡ (t || false) || false
+plain e = ap (λ b. (b || false) || false) e
 
 -- the record's number k
 module _ (u : UsedRecord) (others five six : Bool) (k : ℕ) (e : k ≡ first_fitting (record_lines u.held others six))

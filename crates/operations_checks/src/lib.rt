@@ -1,6 +1,4 @@
 // The lines of the refusals that speak of a record with used qubits.
-pub mod in_place;
-
 ghost use Rattle.std.specs.Prelude.{not, ◌||◌, ◌≡◌, ◌<◌, ◌≤◌, ◌^◌, eqb, leb, length};
 ghost use Rattle.buffers.specs.Refusals.{first_fitting};
 ghost use Rattle.operations.specs.internal.InPlace.{record_in};
@@ -10,18 +8,11 @@ ghost use Rattle.operations.specs.Used.{used_code, used_lines, used_record, used
 use record_impl::checks::record_number;
 use words::{flip, smallest, stray};
 
-// Whether a code is none of a photon's: 0, 2, 4, 6, 8 and 10.
-pub fn no_photon(code: u8) -> bool
-    ensures { result ≡ not (used_code code) }
-{
-    !((code < 12) & (code % 2 != 1))
-}
-
 // Line 7 of a used vertex: it has a neighbour, or its code is none of 0, 2, 4, 6, 8 and 10.
 fn wrong_vertex(word: u64, code: u8) -> bool
     ensures { result ≡ (not (eqb word 0) || not (used_code code)) }
 {
-    (word != 0) | no_photon(code)
+    (word != 0) | !((code < 12) & (code % 2 != 1))
 }
 
 // Line 7: whether some used vertex is wrong.
@@ -45,8 +36,8 @@ fn used_wrong(neighbours: &[u64], codes: &[u8], used: u64) -> bool
 }
 
 // The first line of a record that holds; 0 where none does. `word`: a further word that has no bit at or above n;
-// `others`: a further buffer of the call has a wrong length; `looked`: the caller has looked at the codes, and `over`
-// says whether one is 24 or more; `six`: line 6 holds of a further argument.
+// `others`: a further buffer of the call has a wrong length; `looked`: the caller has looked at the codes, and `over` says
+// whether one is 24 or more; `six`: line 6 holds of a further argument.
 pub fn used_number(
     n: u64,
     neighbours: &[u64],

@@ -36,13 +36,13 @@ use Rattle.stabilizer.specs.Groups.{SameGroup}
 module _ (words codes : List ℕ) (U : Unrefused (record_in words codes)) (a b : ℕ) where
   module _ (e : crossed (clifford_of (get_or codes a 0)) ≡ false) (f : crossed (clifford_of (get_or codes b 0)) ≡ false) where
     pub ready-first : bit_c (clifford_of (get_or codes a 0)) ≡ false → Ready (held_record (record_in words codes)) a b
-    ready-first l = record { first = e; second = f; separate = λ c d. absurd (true≢false (sym c ∙ l)) }
+    ready-first l = record { first = e; second = f; parted = λ c d. absurd (true≢false (sym c ∙ l)) }
 
     pub ready-second : bit_c (clifford_of (get_or codes b 0)) ≡ false → Ready (held_record (record_in words codes)) a b
-    ready-second l = record { first = e; second = f; separate = λ c d. absurd (true≢false (sym d ∙ l)) }
+    ready-second l = record { first = e; second = f; parted = λ c d. absurd (true≢false (sym d ∙ l)) }
 
-    pub ready-separate : bit (get_or words a 0) b ≡ false → Ready (held_record (record_in words codes)) a b
-    ready-separate h = record { first = e; second = f; separate = λ c d. h }
+    pub ready-parted : bit (get_or words a 0) b ≡ false → Ready (held_record (record_in words codes)) a b
+    ready-parted h = record { first = e; second = f; parted = λ c d. h }
 
 pub kept-place : (words codes words₁ codes₁ : List ℕ) → GroupKept words codes words₁ codes₁ → (q : ℕ) → q < length words
     → q < length words₁

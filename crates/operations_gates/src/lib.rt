@@ -28,8 +28,8 @@ pub fn gate_code(codes: &mut [u8], q: usize, k: u8)
     codes[q] = compose(codes[q], k);
 }
 
-// Gate: code k after the code held at q, and the reduced record. Before it `touched` has every vertex that is out of
-// place, and every one with a code that is odd, or 8 or more; the gate touches q.
+// Gate: code k after the code held at q, and the reduced record. Before it `touched` has every vertex that is out of place,
+// and every one with a code that is odd, or 8 or more; the gate touches q.
 pub fn gate_record(neighbours: &mut [u64], codes: &mut [u8], q: usize, k: u8, touched: u64)
     requires unrefused { Unrefused (record_in neighbours.old codes.old) }
     requires q_in_bounds { (q < length neighbours.old) × (k < 24) }
@@ -44,8 +44,8 @@ pub fn gate_record(neighbours: &mut [u64], codes: &mut [u8], q: usize, k: u8, to
     settle_all(neighbours, codes, all, all);
 }
 
-// CZ on a and b, and the reduced record. Before it `touched` has every vertex that is out of place, and every one with
-// a code that is odd, or 8 or more.
+// CZ on a and b, and the reduced record. Before it `touched` has every vertex that is out of place, and every one with a code
+// that is odd, or 8 or more.
 pub fn cz_record(neighbours: &mut [u64], codes: &mut [u8], a: usize, b: usize, touched: u64)
     requires unrefused { Unrefused (record_in neighbours.old codes.old) }
     requires a_in_bounds { (a < length neighbours.old) × (b < length neighbours.old) × (a ≢ b) }

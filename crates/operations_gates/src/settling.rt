@@ -105,8 +105,8 @@ fn settle_next(neighbours: &mut [u64], codes: &mut [u8], rest: u64, watch: u64) 
     }
 }
 
-// Such steps until no vertex is out of place: then the buffers hold the reduced record of the group. `touched` has
-// every vertex that is out of place before, `suspected` every one with a code that is odd, or 8 or more.
+// Such steps until no vertex is out of place: then the buffers hold the reduced record of the group. `touched` has every
+// vertex that is out of place before, `suspected` every one with a code that is odd, or 8 or more.
 pub fn settle_all(neighbours: &mut [u64], codes: &mut [u8], touched: u64, suspected: u64)
     requires unrefused { Unrefused (record_in neighbours.old codes.old) }
     requires suspected { Suspected neighbours.old codes.old suspected }

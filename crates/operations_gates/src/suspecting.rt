@@ -1,5 +1,5 @@
-// One look at all codes: whether one is 24 or more, and which vertices may be out of place, told by their codes alone.
-// A code is a byte, and eight are looked at at once.
+// One look at all codes: whether one is 24 or more, and which vertices may be out of place, told by their codes alone. A
+// code is a byte, and eight are looked at at once.
 ghost use Rattle.std.specs.Prelude.{◌&&◌, ◌||◌, ◌≡◌, ℕ, ◌*◌, ◌+◌, ◌-◌, ◌<◌, ◌≤◌, ◌^◌, eqb, leb, get_or, length};
 ghost use Rattle.buffers.specs.Refusals.{reaching};
 ghost use Rattle.words.specs.Bits.{bit, digit, is_odd, word_of};
@@ -62,8 +62,7 @@ fn eight_codes(codes: &[u8], i: usize) -> u64
 // the bits 3 and 4, which come to bit 5.
 fn high_bits(x: u64) -> u64
     ensures { (k t : ℕ) → k < 8 → t < 3
-        → bit result (8 * k + (5 + t))
-        ≡ (bit x (8 * k + (5 + t)) || (bit x (8 * k + (4 + t)) && bit x (8 * k + (3 + t)))) }
+        → bit result (8 * k + (5 + t)) ≡ (bit x (8 * k + (5 + t)) || (bit x (8 * k + (4 + t)) && bit x (8 * k + (3 + t)))) }
 {
     x | ((x & (x << 1)) << 1)
 }
@@ -89,9 +88,9 @@ fn turned(rows: u64) -> u64
     (twice ^ c) ^ (c << 28)
 }
 
-// The look: first at the codes above the last whole eight, then eight by eight. The marks of eight codes lie eight
-// places apart, and those of the next eight between them. No branch looks at a code, since which codes are held cannot
-// be foreseen.
+// The look: first at the codes above the last whole eight, then eight by eight. The marks of eight codes lie eight places
+// apart, and those of the next eight between them. No branch looks at a code, since which codes are held cannot be
+// foreseen.
 pub fn look(codes: &[u8]) -> Seen
     ensures over_value { result.over ≡ reaching 24 codes.now }
     ensures marked { Marked codes.now result.suspects }
@@ -146,8 +145,8 @@ fn marked_bytes(x: u64) -> u64
     ((laid * 0x0020_4081) >> 21) & 0xFF
 }
 
-// The vertices with such codes, where all are below 24: first those above the last whole eight, then eight by eight.
-// With few codes this is faster than the transposition.
+// The vertices with such codes, where all are below 24: first those above the last whole eight, then eight by eight. With
+// few codes this is faster than the transposition.
 pub fn suspects(codes: &[u8]) -> u64
     requires { (length codes.now ≤ 64) × ((q : ℕ) → get_or codes.now q 0 < 24) }
     ensures { Marked codes.now result }

@@ -1,8 +1,7 @@
-// Gates and CZ on a record in its buffers that leave it unreduced: a gate composes a code, and CZ prepares the two
-// vertices that it names.
+// Gates and CZ on a record in its buffers that leave it unreduced: a gate composes a code, and CZ prepares the two vertices
+// that it names.
 ghost use Rattle.std.specs.Prelude.{true, ◌≢◌, ◌≡◌, ◌<◌, length};
 ghost use Rattle.clifford.specs.Clifford.{clifford_of};
-ghost use Rattle.clifford_impl.specs.internal.Composing.{Composes};
 ghost use Rattle.operations.specs.internal.KeptGroups.{GroupHeld, GroupKept};
 ghost use Rattle.operations.specs.internal.ReadyPairs.{Ready, crossed};
 ghost use Rattle.operations.specs.Cz.{cz_rows};
@@ -11,16 +10,16 @@ ghost use Rattle.operations.specs.internal.InPlace.{Unrefused, record_in};
 ghost use Rattle.record.specs.Lent.{held_record, held_rows};
 ghost use Rattle.record.specs.Records.{rows_of};
 
+use crate::gate_code;
 use crate::joins::cz_ready;
 use crate::settling::normalise;
 use clifford_impl::codes::Code;
-use clifford_impl::numbers::compose_by;
 use operations_rewriting::complements::complement_record;
 use operations_rewriting::pivots::pivot_record;
 use words::has;
 
 // Whether a code has C = D = 1.
-pub fn is_crossed(code: u8) -> bool
+fn is_crossed(code: u8) -> bool
     requires { code < 24 }
     ensures { result ≡ crossed (clifford_of code) }
 {
@@ -64,8 +63,8 @@ fn uncross(neighbours: &mut [u64], codes: &mut [u8], a: usize)
     }
 }
 
-// The two separated: a pivot where they are joined.
-fn separate(neighbours: &mut [u64], codes: &mut [u8], a: usize, b: usize)
+// A pivot where the two are joined.
+fn part(neighbours: &mut [u64], codes: &mut [u8], a: usize, b: usize)
     requires unrefused { Unrefused (record_in neighbours.old codes.old) }
     requires a_in_bounds { (a < length neighbours.old) × (b < length neighbours.old) }
     ensures { GroupKept neighbours.old codes.old
@@ -88,8 +87,8 @@ fn uncross_both(neighbours: &mut [u64], codes: &mut [u8], a: usize, b: usize)
     uncross(neighbours, codes, a);
 }
 
-// The two separated where they are not ready, and the record reduced where that does not help.
-fn separate_both(neighbours: &mut [u64], codes: &mut [u8], a: usize, b: usize)
+// The two parted where they are not ready, and the record reduced where that does not help.
+fn part_both(neighbours: &mut [u64], codes: &mut [u8], a: usize, b: usize)
     requires unrefused { Unrefused (record_in neighbours.old codes.old) }
     requires a_in_bounds { (a < length neighbours.old) × (b < length neighbours.old) }
     ensures group_kept { GroupKept neighbours.old codes.old
@@ -99,7 +98,7 @@ fn separate_both(neighbours: &mut [u64], codes: &mut [u8], a: usize, b: usize)
     if is_ready(neighbours, codes, a, b) {
         return;
     }
-    separate(neighbours, codes, a, b);
+    part(neighbours, codes, a, b);
     if is_ready(neighbours, codes, a, b) {
         return;
     }
@@ -118,7 +117,7 @@ fn make_ready(neighbours: &mut [u64], codes: &mut [u8], a: usize, b: usize)
         return;
     }
     uncross_both(neighbours, codes, a, b);
-    separate_both(neighbours, codes, a, b);
+    part_both(neighbours, codes, a, b);
 }
 
 // CZ on a and b: the group after it.
@@ -133,14 +132,13 @@ pub fn cz_unsettled(neighbours: &mut [u64], codes: &mut [u8], a: usize, b: usize
     cz_ready(neighbours, codes, a, b);
 }
 
-// Code k after the code held at q, by the table that is lent: the group after it.
-pub fn gate_unsettled(neighbours: &[u64], codes: &mut [u8], q: usize, k: u8, table: &[u8; 576])
+// Code k after the code held at q: the group after it.
+pub fn gate_unsettled(neighbours: &[u64], codes: &mut [u8], q: usize, k: u8)
     requires unrefused { Unrefused (record_in neighbours.now codes.old) }
-    requires q_in_bounds { (q < length neighbours.now) × (k < 24) × Composes table.now }
+    requires q_in_bounds { (q < length neighbours.now) × (k < 24) }
     ensures { GroupHeld (length neighbours.now)
-        (rows_of (length neighbours.now) (gated (held_record
-        (record_in neighbours.now codes.old)) q (clifford_of k)))
+        (rows_of (length neighbours.now) (gated (held_record (record_in neighbours.now codes.old)) q (clifford_of k)))
         neighbours.now codes.new }
 {
-    codes[q] = compose_by(table, codes[q], k);
+    gate_code(codes, q, k);
 }

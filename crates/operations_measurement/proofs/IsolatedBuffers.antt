@@ -23,7 +23,7 @@ use Rattle.record.specs.Records.{GraphRecord}
 use Rattle.words.proofs.BitLaws.{lt-of-bits, word_of-bit, zero_bit}
 use Rattle.words.proofs.Places.{put_all}
 use Rattle.words.specs.Bits.{bit, digit, put, word_of}
-use Rattle.operations_measurement.proofs.RemovedEdges.{edges_removed}
+use Rattle.operations_measurement.proofs.RemovedEdges.{parted_from}
 
 -- a Hadamard's number
 hadamard-number : (t : Bool) → clifford_of (8 + 2 * digit t) ≡ hadamard_code t
@@ -72,7 +72,7 @@ module _ (words codes : List ℕ) (U : Unrefused (record_in words codes)) (q : �
       → codes₁ ≡ tabulate (length codes)
       (λ j. code_of (cond (bit w j) (then (clifford_of 2) (codes_of codes j)) (codes_of codes j)))
       → v ≡ code_of (then (hadamard_code t) (codes_of codes q)) → codes' ≡ set codes₁ q v
-      → length words' ≡ length words → SameGraph (graph_in words') (edges_removed (graph_in words) q)
+      → length words' ≡ length words → SameGraph (graph_in words') (parted_from (graph_in words) q)
       → Rewritten words codes (λ g. isolated g q t) words' codes'
   isolated-written w codes₁ words' codes' v hq hw e₁ ev e' long edges =
       record {
@@ -91,7 +91,7 @@ module _ (words codes : List ℕ) (U : Unrefused (record_in words codes)) (q : �
       → codes₁ ≡ tabulate (length codes)
       (λ j. code_of (cond (bit (get_or words q 0) j) (then (clifford_of 2) (codes_of codes j)) (codes_of codes j)))
       → v ≡ code_of (then (hadamard_code t) (codes_of codes q)) → codes' ≡ set codes₁ q v
-      → length words' ≡ length words → SameGraph (graph_in words') (edges_removed (graph_in words) q)
+      → length words' ≡ length words → SameGraph (graph_in words') (parted_from (graph_in words) q)
       → Rewritten words codes (λ g. isolated g q t) words' codes'
   isolated-turning e codes₁ words' codes' v hq = isolated-written (get_or words q 0) codes₁ words' codes' v hq
       (λ j. ap (λ b. b && bit (get_or words q 0) j) (sym e))
@@ -99,7 +99,7 @@ module _ (words codes : List ℕ) (U : Unrefused (record_in words codes)) (q : �
   -- and where it is false there are none
   pub isolated-alone : t ≡ false → (words' codes' : List ℕ) (v : ℕ) → q < length codes
       → v ≡ code_of (then (hadamard_code t) (codes_of codes q)) → codes' ≡ set codes q v
-      → length words' ≡ length words → SameGraph (graph_in words') (edges_removed (graph_in words) q)
+      → length words' ≡ length words → SameGraph (graph_in words') (parted_from (graph_in words) q)
       → Rewritten words codes (λ g. isolated g q t) words' codes'
   isolated-alone e words' codes' v hq = isolated-written 0 codes words' codes' v hq
       (λ j. zero_bit j ∙ ap (λ b. b && bit (get_or words q 0) j) (sym e))

@@ -4,9 +4,9 @@ pub mod MeasuredBuffers
 pub mod MeasuredComplements
 pub mod MeasuredGroups
 pub mod MeasuredPivots
-pub mod RemovedBuffers
-pub mod RemovingComplements
-pub mod RemovingPivots
+pub mod PartedBuffers
+pub mod PartedComplements
+pub mod PartedPivots
 pub mod ReadingOff
 pub mod RemovedEdges
 pub mod SentLetters

@@ -17,14 +17,14 @@ use Rattle.operations.specs.internal.KeptGroups.{GroupMeasured}
 use Rattle.operations.specs.internal.GraphSteps.{hadamard_code, pauli_code}
 use Rattle.operations.proofs.UnrefusedRecords.{complement-above, unrefused-above, unrefused-simple}
 use Rattle.operations.specs.internal.InPlace.{Unrefused, record_in}
-use Rattle.operations_measurement.proofs.RemovedEdges.{edges_removed}
+use Rattle.operations_measurement.proofs.RemovedEdges.{parted_from}
 use Rattle.pauli.specs.declared.Letter.TheVariants.{Y}
 use Rattle.record.specs.Lent.{code_numbers, held_record}
 use Rattle.record.specs.Records.{complement_record}
 use Rattle.words.proofs.Finite.{⊕-zero}
 use Rattle.words.specs.Bits.{bit, is_odd, put, ◌⊕◌}
 use Rattle.operations_measurement.proofs.BringingToZ.{brought-by-complement}
-use Rattle.operations_measurement.proofs.RemovedBuffers.{removed-asks, removed-measured}
+use Rattle.operations_measurement.proofs.PartedBuffers.{parted-asks, parted-measured}
 
 module _ (words codes : List ℕ) (U : Unrefused (record_in words codes)) (q : ℕ) (hq : q < length words) (near : ℕ)
     (codes₁ : List ℕ)
@@ -49,16 +49,16 @@ module _ (words codes : List ℕ) (U : Unrefused (record_in words codes)) (q : �
 
   pub complement-asks : ((length codes₁ ≤ 64) × ((j : ℕ) → get_or codes₁ j 0 < 24))
       × ((near < 2 ^ (length codes₁)) × (q < length codes₁))
-  complement-asks = removed-asks words codes U (λ g. complement_record g q) is-simple is-above q hq near codes₁ coded
+  complement-asks = parted-asks words codes U (λ g. complement_record g q) is-simple is-above q hq near codes₁ coded
       same-near
 
   pub complement-measured : (b : Bool) (words₂ codes₂ : List ℕ) → length words₂ ≡ length words
-      → SameGraph (graph_in words₂) (edges_removed (complement (graph_in words) q) q)
+      → SameGraph (graph_in words₂) (parted_from (complement (graph_in words) q) q)
       → codes₂ ≡ tabulate (length codes₁) (λ j. code_of (put
       (λ j. then (pauli_code false ((b ⊕ is_odd (get_or codes₁ q 0)) && bit near j)) (codes_of codes₁ j)) q
       (then (hadamard_code (b ⊕ is_odd (get_or codes₁ q 0))) (codes_of codes₁ q)) j))
       → GroupMeasured words codes (image (codes_of codes q) Y) q b words₂ codes₂
   complement-measured b words₂ codes₂ long edges turned =
-      removed-measured words codes U (λ g. complement_record g q) is-simple is-above q hq near codes₁ coded same-near b
+      parted-measured words codes U (λ g. complement_record g q) is-simple is-above q hq near codes₁ coded same-near b
       words₂
       codes₂ long edges turned (image (codes_of codes q) Y) (brought-by-complement words codes U q hq)

@@ -16,12 +16,12 @@ use Rattle.operations.proofs.Rewriting.{pivot-above, pivot-simple}
 use Rattle.operations.proofs.UnrefusedRecords.{unrefused-above, unrefused-simple}
 use Rattle.operations.specs.internal.InPlace.{Unrefused, record_in}
 use Rattle.operations.specs.Steps.{pivot_record}
-use Rattle.operations_measurement.proofs.RemovedEdges.{edges_removed}
+use Rattle.operations_measurement.proofs.RemovedEdges.{parted_from}
 use Rattle.pauli.specs.declared.Letter.TheVariants.{X}
 use Rattle.record.specs.Lent.{code_numbers, held_record}
 use Rattle.words.specs.Bits.{bit, is_odd, put, ◌⊕◌}
 use Rattle.operations_measurement.proofs.BringingToZ.{brought-by-pivot, neighbour-below}
-use Rattle.operations_measurement.proofs.RemovedBuffers.{removed-asks, removed-measured}
+use Rattle.operations_measurement.proofs.PartedBuffers.{parted-asks, parted-measured}
 
 module _ (words codes : List ℕ) (U : Unrefused (record_in words codes)) (q k : ℕ) (hq : q < length words)
     (edge : bit (get_or words q 0) k ≡ true) (near : ℕ) (codes₁ : List ℕ)
@@ -37,14 +37,14 @@ module _ (words codes : List ℕ) (U : Unrefused (record_in words codes)) (q k :
 
   pub pivot-asks : ((length codes₁ ≤ 64) × ((j : ℕ) → get_or codes₁ j 0 < 24))
       × ((near < 2 ^ (length codes₁)) × (q < length codes₁))
-  pivot-asks = removed-asks words codes U (λ g. pivot_record g q k) is-simple is-above q hq near codes₁ coded joined
+  pivot-asks = parted-asks words codes U (λ g. pivot_record g q k) is-simple is-above q hq near codes₁ coded joined
 
   pub pivot-measured : (b : Bool) (words₂ codes₂ : List ℕ) → length words₂ ≡ length words
-      → SameGraph (graph_in words₂) (edges_removed (pivot_record (held_record (record_in words codes)) q k).graph q)
+      → SameGraph (graph_in words₂) (parted_from (pivot_record (held_record (record_in words codes)) q k).graph q)
       → codes₂ ≡ tabulate (length codes₁) (λ j. code_of (put
       (λ j. then (pauli_code false ((b ⊕ is_odd (get_or codes₁ q 0)) && bit near j)) (codes_of codes₁ j)) q
       (then (hadamard_code (b ⊕ is_odd (get_or codes₁ q 0))) (codes_of codes₁ q)) j))
       → GroupMeasured words codes (image (codes_of codes q) X) q b words₂ codes₂
   pivot-measured b words₂ codes₂ long edges turned =
-      removed-measured words codes U (λ g. pivot_record g q k) is-simple is-above q hq near codes₁ coded joined b words₂
+      parted-measured words codes U (λ g. pivot_record g q k) is-simple is-above q hq near codes₁ coded joined b words₂
       codes₂ long edges turned (image (codes_of codes q) X) (brought-by-pivot words codes U q hq k edge)

@@ -18,8 +18,8 @@ use Rattle.words.proofs.Finite.{⊕-cleared, ⊕-zero}
 use Rattle.words.proofs.Places.{other_place, same_place}
 use Rattle.words.specs.Bits.{bit, ◌⊕◌}
 
-abbrev pub edges_removed : Graph → ℕ → Graph
-edges_removed θ q k l = θ k l && (not (eqb k q) && not (eqb l q))
+abbrev pub parted_from : Graph → ℕ → Graph
+parted_from θ q k l = θ k l && (not (eqb k q) && not (eqb l q))
 
 -- the word of i without q
 abbrev pub LeftAt : List ℕ → ℕ → ℕ → ℕ → Type 0
@@ -30,10 +30,10 @@ abbrev pub Leaving : List ℕ → ℕ → List ℕ → ℕ → Type 0
 Leaving old q new rest = Over (LeftAt old q) (get_or old q 0) old new rest
 
 -- and last its own word
-pub all-removed : (φ : Graph) (q : ℕ) (new : List ℕ) → q < length new
-    → ((k l : ℕ) → graph_in new k l ≡ (φ k l && not (eqb l q))) → SameGraph (graph_in (set new q 0)) (edges_removed φ q)
-all-removed φ q new hq h k l = elim (ℕ_discrete k q) [
-  | yes d ↦ subst (λ m. bit (get_or (set new q 0) m 0) l ≡ edges_removed φ q m l) (sym d)
+pub all-parted : (φ : Graph) (q : ℕ) (new : List ℕ) → q < length new
+    → ((k l : ℕ) → graph_in new k l ≡ (φ k l && not (eqb l q))) → SameGraph (graph_in (set new q 0)) (parted_from φ q)
+all-parted φ q new hq h k l = elim (ℕ_discrete k q) [
+  | yes d ↦ subst (λ m. bit (get_or (set new q 0) m 0) l ≡ parted_from φ q m l) (sym d)
       (ap (λ w. bit w l) (get_or-set_same new q 0 0 hq) ∙ zero_bit l
       ∙ sym (ap (λ b. φ q l && (not b && not (eqb l q))) (same_place q) ∙ and-false (φ q l)))
   | no d ↦ ap (λ w. bit w l) (get_or-set_other new q k 0 0 d) ∙ h k l
@@ -67,6 +67,6 @@ module _ (old : List ℕ) (q : ℕ) (S : Simple (length old) (graph_in old)) whe
         (λ l. ap₂ (λ u v. bit (bit_xor u v) l) (L.left i named) h ∙ bit-flip (get_or old i 0) q l
         ∙ without i true (L.named i named) l) f
 
-    pub leave-end : rest ≡ 0 → q < length old → SameGraph (graph_in (set new q 0)) (edges_removed (graph_in old) q)
-    leave-end e hq = all-removed θ q new (subst (λ m. q < m) (sym L.long) hq)
+    pub leave-end : rest ≡ 0 → q < length old → SameGraph (graph_in (set new q 0)) (parted_from (graph_in old) q)
+    leave-end e hq = all-parted θ q new (subst (λ m. q < m) (sym L.long) hq)
         (over-end (LeftAt old q) (get_or old q 0) old new rest L e)

@@ -1,6 +1,6 @@
 // Measurements on a record in its buffers.
 mod isolation;
-mod removing;
+mod parting;
 mod undetermined;
 
 ghost use Rattle.std.specs.Prelude.{cond, ◌≡◌, ◌<◌, ◌≤◌, length};
@@ -115,8 +115,7 @@ pub fn measure_unsettled(
     requires unrefused { Unrefused (record_in neighbours.old codes.old) × (q < length neighbours.old) }
     requires le_pauli { (1 ≤ pauli) × (pauli ≤ 3) }
     ensures group_held { GroupHeld (length neighbours.old)
-        (measured_rows (length neighbours.old)
-        (held_rows (record_in neighbours.old codes.old))
+        (measured_rows (length neighbours.old) (held_rows (record_in neighbours.old codes.old))
         (pauli_letter pauli) q bit) neighbours.new codes.new }
     ensures value { result ≡ measured_outcome (length neighbours.old)
         (held_rows (record_in neighbours.old codes.old)) (pauli_letter pauli) q bit }

@@ -1,5 +1,5 @@
-// A measurement that is not determined: the code at the vertex sends X, Z or Y to the letter; a pivot or a
-// complementation brings Z there where it is X or Y, and the vertex is isolated.
+// A measurement that is not determined: the code at the vertex sends X, Z or Y to the letter; a pivot or a complementation
+// brings Z there where it is X or Y, and the vertex is isolated.
 ghost use Rattle.std.specs.Prelude.{◌&&◌, false, true, ◌↔◌, ◌≡◌, ℕ, ◌<◌, ◌≤◌, ◌^◌, get_or, length};
 ghost use Rattle.buffers.specs.Buffers.{tabulate};
 ghost use Rattle.clifford.specs.Clifford.{clifford_of, code_of, image, then};
@@ -13,7 +13,7 @@ ghost use Rattle.record.specs.Lent.{held_rows};
 ghost use Rattle.words.specs.Bits.{bit, is_odd, put, ◌⊕◌};
 
 use crate::isolation::{isolate, with_hadamard};
-use crate::removing::{complement_removing, pivot_removing};
+use crate::parting::{complement_parted, pivot_parted};
 use clifford_impl::codes::Code;
 use operations_rewriting::complements::put_before;
 use pauli::{Letter, x_bit, z_bit};
@@ -29,9 +29,9 @@ fn sends(code: u8, from: Letter, to: Letter) -> bool
     (z_bit(letter) == z_bit(to)) & (x_bit(letter) == x_bit(to))
 }
 
-// The codes after Z is measured at q, which has no edges left and had those to `near`: there a Hadamard comes before
-// the code, with the sign, and 2, which is Z, before the codes of the others where the sign is minus.
-fn turn_removed(codes: &mut [u8], near: u64, q: usize, outcome: bool)
+// The codes after Z is measured at q, which has no edges left and had those to `near`: there a Hadamard comes before the
+// code, with the sign, and 2, which is Z, before the codes of the others where the sign is minus.
+fn turn_parted(codes: &mut [u8], near: u64, q: usize, outcome: bool)
     requires codes_len_bound { (length codes.old ≤ 64) × ((j : ℕ) → get_or codes.old j 0 < 24) }
     requires near_bound { (near < 2 ^ (length codes.old)) × (q < length codes.old) }
     ensures { codes.new ≡ tabulate (length codes.old) (λ j. code_of (put
@@ -55,8 +55,8 @@ fn measure_x(neighbours: &mut [u64], codes: &mut [u8], q: usize, outcome: bool)
         (image (codes_of codes.old q) X) q outcome neighbours.new codes.new }
 {
     let k = largest(neighbours[q]);
-    let near = pivot_removing(neighbours, codes, q, k);
-    turn_removed(codes, near, q, outcome);
+    let near = pivot_parted(neighbours, codes, q, k);
+    turn_parted(codes, near, q, outcome);
 }
 
 // Measures the letter to which the code at q sends Z.
@@ -75,8 +75,8 @@ fn measure_y(neighbours: &mut [u64], codes: &mut [u8], q: usize, outcome: bool)
     ensures { GroupMeasured neighbours.old codes.old
         (image (codes_of codes.old q) Y) q outcome neighbours.new codes.new }
 {
-    let near = complement_removing(neighbours, codes, q);
-    turn_removed(codes, near, q, outcome);
+    let near = complement_parted(neighbours, codes, q);
+    turn_parted(codes, near, q, outcome);
 }
 
 // The group after a measurement of l at q that is not determined: l stands for X, Z or Y of the graph there.

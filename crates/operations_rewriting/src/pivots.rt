@@ -35,8 +35,8 @@ fn turn_rows(neighbours: &mut [u64], codes: &mut [u8], rows: u64, word: u64)
     }
 }
 
-// The edges between the two sets flipped, and 2 before the codes of their vertices. A vertex of the first set alone
-// gets the second set's word, one of the second alone the first's, and one of both the xor of the two.
+// The edges between the two sets flipped, and 2 before the codes of their vertices. A vertex of the first set alone gets
+// the second set's word, one of the second alone the first's, and one of both the xor of the two.
 pub fn join_turning(neighbours: &mut [u64], codes: &mut [u8], to_a: u64, to_b: u64)
     requires unrefused { Unrefused (record_in neighbours.old codes.old) }
     requires to_a_bound { (to_a < 2 ^ (length neighbours.old)) × (to_b < 2 ^ (length neighbours.old)) }

@@ -1,5 +1,4 @@
-// Orbits of graphs on few vertices under local complementation: see specs/ for the definitions and proofs/ for the
-// laws.
+// Orbits of graphs on few vertices under local complementation: see specs/ for the definitions and proofs/ for the laws.
 
 // Two vertices, the smaller first.
 #[derive(Drop)]

@@ -1,5 +1,5 @@
-// The orbit of a graph on up to 6 vertices: the graphs found are marked, followed in the order in which they were
-// found, and written by number.
+// The orbit of a graph on up to 6 vertices: the graphs found are marked, followed in the order in which they were found,
+// and written by number.
 ghost use Rattle.std.specs.Prelude.{◌≡◌, ◌<◌, ◌≤◌, length};
 ghost use Rattle.buffers.specs.Buffers.{written};
 ghost use Rattle.orbits.specs.Numbers.{graph_count};

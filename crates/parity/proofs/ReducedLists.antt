@@ -186,8 +186,8 @@ module _ (l : LentRecord) (A : AcceptedRecord l) (z x : ℕ) (hz : z < 2 ^ l.n) 
 
       module _ (signs' zs' xs' : List ℕ) (C : Changed z x b g (list_in signs zs xs) (list_in signs' zs' xs')) where
         pub reduce-ready : Reducible (record { n = l.n; signs = signs'; z = zs'; x = xs' })
-        reduce-ready = changed-reducible l A z x hz hx is_open b (list_in signs zs xs) signs-long zs-long xs-long same g
-            is (list_in signs' zs' xs') C
+        reduce-ready = changed-reducible l A z x hz hx is_open b (list_in signs zs xs) signs-long zs-long xs-long same g is
+            (list_in signs' zs' xs') C
 
         pub reduced-written : (r : Bool) (nb cs nb' cs' : List ℕ) → r ≡ not
             (dependent l.n (rows (list_in signs' zs' xs')))

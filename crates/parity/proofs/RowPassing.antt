@@ -109,6 +109,5 @@ module _ (u : UsedRecord) (z x : ℕ) (hz : z < 2 ^ u.held.n) (hx : x < 2 ^ u.he
       go : (d : Bool) → eqb both 0 ≡ d → not d ≡ some u.held.n (λ q. bit u.used q && (bit z q || bit x q))
       go true e = sym (some-none u.held.n _ (λ q l. sym (both-bit q) ∙ ap (λ v. bit v q) (eqb-true both 0 e) ∙
           zero_bit q))
-      go false e = let s = some-bit u.held.n both
-          (and-lt-right u.held.n u.used (bit_or z x) (or_lt u.held.n z x hz hx))
+      go false e = let s = some-bit u.held.n both (and-lt-right u.held.n u.used (bit_or z x) (or_lt u.held.n z x hz hx))
           (eqb-false both 0 e) in sym (some_in u.held.n _ s.0 s.1 (sym (both-bit s.0) ∙ s.2))

@@ -1,5 +1,5 @@
-// The generators of a record, changed by the measurement of a row: the first that does not commute with it goes into
-// the others that do not, and the row takes its place.
+// The generators of a record, changed by the measurement of a row: the first that does not commute with it goes into the
+// others that do not, and the row takes its place.
 ghost use Rattle.std.specs.Prelude.{false, ◌≡◌, ℕ, ◌<◌, ◌^◌, get_or, length};
 ghost use Rattle.operations.specs.internal.InPlace.{Unrefused, record_in};
 ghost use Rattle.parity.specs.RowMeasurement.{row_value};

@@ -1,5 +1,6 @@
 -- The heads of a party's four places in a store of eight, after a place of the eight is written or made free; a party
--- above 1 has none.
+-- above
+-- 1 has none.
 use mathlib.Core.List.{[], List}
 use mathlib.Core.Logic.{inl, inr, ◌⊎◌}
 use mathlib.Core.Path.{ap, sym, ◌∙◌, ◌≡◌}

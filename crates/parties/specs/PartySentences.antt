@@ -65,7 +65,7 @@ party_argument_sentences word g u pauli q b =
     party_sentences word g u (CodeAbove23 u.held ⊎ MeasureMisfits pauli b) (OtherParties word g u q) (u.held.n ≤ q)
     (IsUsed u q)
 
--- 14 is about the whole record's group
+-- 14 is about the whole record's party
 abbrev pub party_measure_sentences : ℕ → ℕ → UsedRecord → ℕ → ℕ → ℕ → List Sentence
 party_measure_sentences word g u pauli q b =
     party_argument_sentences word g u pauli q b ++ (sentence 14 (Contradicted u pauli q b) ∷ [])

@@ -49,12 +49,11 @@ pub fn put_masked(
       heads = heads.exit.now;
       neighbours = held_neighbours.new;
       codes = held_codes.new;
-    }) (with_place i (masked (bit own) (used_record 64 neighbours.now codes.now used)) name
-        (record {
-          heads = heads.entry.now;
-          neighbours = held_neighbours.old;
-          codes = held_codes.old;
-        })) }
+    }) (with_place i (masked (bit own) (used_record 64 neighbours.now codes.now used)) name (record {
+      heads = heads.entry.now;
+      neighbours = held_neighbours.old;
+      codes = held_codes.old;
+    })) }
 {
     put_head(i, 64, name, mask_used(own, used), heads);
     let at = 64 * i;

@@ -1,5 +1,5 @@
 -- Graphs on the vertices below n, the generators of a graph, and local complementation.
-use Rattle.std.specs.Prelude.{◌&&◌, false, not, List, [], ◌∷◌, ◌≡◌, ℕ, ◌≤◌, eqb}
+use Rattle.std.specs.Prelude.{◌&&◌, false, not, ◌≡◌, ℕ, ◌≤◌, eqb}
 use Rattle.pauli.specs.Pauli.{Pauli, i⁰}
 use Rattle.words.specs.Bits.{Word, ◌⊕◌}
 
@@ -20,8 +20,3 @@ graph_generator θ j = record { phase = i⁰; z = θ j; x = λ q. eqb q j }
 -- "Complementing at vertex a flips every edge between two neighbours of a"
 abbrev pub complement : Graph → ℕ → Graph
 complement θ a i j = θ i j ⊕ ((θ a i && θ a j) && not (eqb j i))
-
--- what is done at a vertex, "done one after another" at each vertex of a list
-abbrev pub at_each : {A : Type 0} → (A → ℕ → A) → A → List ℕ → A
-at_each f s [] = s
-at_each f s (v ∷ vs) = at_each f (f s v) vs

@@ -1,8 +1,8 @@
 -- Graph records, their generators, and complementing a record.
-use Rattle.std.specs.Prelude.{cond, List, ◌≡◌, ℕ, eqb}
+use Rattle.std.specs.Prelude.{cond, List, [], ◌∷◌, ◌≡◌, ℕ, eqb}
 use Rattle.clifford.specs.Clifford.{Clifford, clifford_of, then}
 use Rattle.clifford.specs.Vectors.{act}
-use Rattle.record.specs.Graph.{Graph, at_each, complement, graph_generator}
+use Rattle.record.specs.Graph.{Graph, complement, graph_generator}
 use Rattle.pauli.specs.Pauli.{Pauli}
 
 -- "A record holds n, one neighbour word and one code per vertex"; n is given beside it
@@ -34,4 +34,5 @@ complement_record r a = record { graph = complement r.graph a; codes = recoded r
 
 -- complementing at each vertex of a list, one after another
 abbrev pub complement_all : GraphRecord → List ℕ → GraphRecord
-complement_all = at_each complement_record
+complement_all r [] = r
+complement_all r (a ∷ rest) = complement_all (complement_record r a) rest

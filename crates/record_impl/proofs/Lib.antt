@@ -1,2 +1,1 @@
-pub mod LaidOver
 pub mod Squares

@@ -4,7 +4,7 @@ use mathlib.Core.List.{List}
 use mathlib.Core.Path.{ap, ap₂, refl, subst, sym, ◌∙◌, ◌≡◌}
 use Prim.Native.Nat.{◌%◌, ◌*◌, ◌+◌, ◌-◌, ◌<◌, ◌^◌, ℕ, ◌≤◌}
 use native.Mathlib.Decide.{ℕ_discrete}
-use native.Mathlib.Nat.{add-suc, add-zero, mod-eq_of_lt, not-suc-le-zero, zero-add}
+use native.Mathlib.Nat.{add-suc, add-zero, mod-eq_of_lt, not-suc-le-zero}
 use native.Mathlib.Omega.{arith}
 use lib.Bits.{bit_and, bit_or, bit_xor}
 use lib.Dec.{eqb, ltb}
@@ -19,7 +19,6 @@ use Rattle.words.proofs.Places.{other_place, same_place, upto-other}
 use Rattle.words.proofs.SearchLaws.{some-ext, some-false, some-true}
 use Rattle.words.specs.Bits.{bit, same_bit, ◌⊕◌}
 use Rattle.words.specs.Search.{first, some}
-use Rattle.words.specs.internal.Squares.{Transposed, left}
 use Rattle.record_impl.specs.internal.Copies.{Copied}
 
 -- ---- the copy: its first i words
@@ -27,11 +26,11 @@ pub record CopiedTo (i n : ℕ) (words rows : List ℕ) : Type 0 where
   pub upto : i ≤ n
   pub copied : Copied i words rows
 
-pub copied_none : (n : ℕ) (words rows : List ℕ) → length rows ≡ 32 → CopiedTo 0 n words rows
+pub copied_none : (n : ℕ) (words rows : List ℕ) → length rows ≡ 64 → CopiedTo 0 n words rows
 copied_none n words rows e =
     record { upto = omega arith; copied = record { long = e; same = λ j l. absurd (not-suc-le-zero l) } }
 
-pub copied-one : (i n : ℕ) (words rows : List ℕ) → n ≤ 32 → i < n → CopiedTo i n words rows
+pub copied-one : (i n : ℕ) (words rows : List ℕ) → n ≤ 64 → i < n → CopiedTo i n words rows
     → CopiedTo (i + 1) n words (set rows i (get_or words i 0))
 copied-one i n words rows small l C =
     record {
@@ -63,7 +62,7 @@ pub record OwnTo (i n : ℕ) (words rows : List ℕ) (own place : ℕ) : Type 0 
   pub next : i < 64 → place ≡ 2 ^ i
   pub held : (c : ℕ) → bit own c ≡ (ltb c i && bit (get_or words c 0) c)
 
-pub own-none : (n : ℕ) (words rows : List ℕ) → length rows ≡ 32 → OwnTo 0 n words rows 0 1
+pub own-none : (n : ℕ) (words rows : List ℕ) → length rows ≡ 64 → OwnTo 0 n words rows 0 1
 own-none n words rows e =
     record {
       copied = copied_none n words rows e;
@@ -77,31 +76,32 @@ next_place i place l e =
     let doubled : place * 2 ≡ 2 ^ (i + 1) = ap (λ v. v * 2) e ∙ sym (pow-add 2 i 1) in
     ap (λ v. v % 18446744073709551616) doubled ∙ mod-eq_of_lt (pow-lt l)
 
--- of words g, the bit of the next one at its own place
-pub own-step : (g : ℕ → ℕ) (i own place : ℕ) → place ≡ 2 ^ i → ((c : ℕ) → bit own c ≡ (ltb c i && bit (g c) c))
-    → (c : ℕ) → bit (bit_or own (bit_and (g i) place)) c ≡ (ltb c (i + 1) && bit (g c) c)
-own-step g i own place e held c = bit-or own (bit_and (g i) place) c
-    ∙ ap₂ ◌||◌ (held c) (bit-and (g i) place c ∙ ap (λ w. bit (g i) c && bit w c) e
-    ∙ ap (λ b. bit (g i) c && b) (bit-single i c))
-    ∙ at (ℕ_discrete c i)
-  where
-    at : Dec (c ≡ i) → ((ltb c i && bit (g c) c) || (bit (g i) c && eqb c i)) ≡ (ltb c (i + 1) && bit (g c) c)
-    at (yes p) = subst (λ c. ((ltb c i && bit (g c) c) || (bit (g i) c && eqb c i)) ≡ (ltb c (i + 1) && bit (g c) c))
-        (sym p) (ap₂ (λ u v. (u && bit (g i) i) || (bit (g i) i && v)) (le-ltb i i (omega arith)) (same_place i)
-        ∙ and-true (bit (g i) i) ∙ ap (λ b. b && bit (g i) i) (sym (lt-ltb i (i + 1) (omega arith))))
-    at (no d) = ap₂ (λ u v. (u && bit (g c) c) || (bit (g i) c && v)) (sym (upto-other c i d)) (other_place d)
-        ∙ ap (λ b. (ltb c (i + 1) && bit (g c) c) || b) (and-false (bit (g i) c))
-        ∙ or-false (ltb c (i + 1) && bit (g c) c)
-
-pub own-one : (i n : ℕ) (words rows : List ℕ) (own place place' : ℕ) → n ≤ 32 → i < n → OwnTo i n words rows own place
+pub own-one : (i n : ℕ) (words rows : List ℕ) (own place place' : ℕ) → n ≤ 64 → i < n → OwnTo i n words rows own place
     → (i + 1 < 64 → place ≡ 2 ^ i → place' ≡ 2 ^ (i + 1))
     → OwnTo (i + 1) n words (set rows i (get_or words i 0)) (bit_or own (bit_and (get_or words i 0) place)) place'
 own-one i n words rows own place place' small l S moved =
     record {
       copied = copied-one i n words rows small l S.copied;
       next = λ h. moved h (S.next (omega arith));
-      held = own-step (λ c. get_or words c 0) i own place (S.next (omega arith)) S.held;
+      held = λ c. bit-or own (bit_and (get_or words i 0) place) c
+          ∙ ap₂ ◌||◌ (S.held c) (bit-and (get_or words i 0) place c
+          ∙ ap (λ w. bit (get_or words i 0) c && bit w c) (S.next (omega arith))
+          ∙ ap (λ b. bit (get_or words i 0) c && b) (bit-single i c))
+          ∙ at c (ℕ_discrete c i);
     }
+  where
+    at : (c : ℕ) → Dec (c ≡ i) → ((ltb c i && bit (get_or words c 0) c) || (bit (get_or words i 0) c && eqb c i))
+        ≡ (ltb c (i + 1) && bit (get_or words c 0) c)
+    at c (yes e) = subst (λ c. ((ltb c i && bit (get_or words c 0) c) || (bit (get_or words i 0) c && eqb c i))
+        ≡ (ltb c (i + 1) && bit (get_or words c 0) c)) (sym e)
+        (ap₂ (λ u v. (u && bit (get_or words i 0) i) || (bit (get_or words i 0) i && v)) (le-ltb i i (omega arith))
+        (same_place i)
+        ∙ and-true (bit (get_or words i 0) i)
+        ∙ ap (λ b. b && bit (get_or words i 0) i) (sym (lt-ltb i (i + 1) (omega arith))))
+    at c (no d) = ap₂ (λ u v. (u && bit (get_or words c 0) c) || (bit (get_or words i 0) c && v)) (sym (upto-other c i d))
+        (other_place d)
+        ∙ ap (λ b. (ltb c (i + 1) && bit (get_or words c 0) c) || b) (and-false (bit (get_or words i 0) c))
+        ∙ or-false (ltb c (i + 1) && bit (get_or words c 0) c)
 
 pub own-all : (i n : ℕ) (words rows : List ℕ) (own place : ℕ) → n ≤ i → OwnTo i n words rows own place
     → (c : ℕ) → bit own c ≡ (ltb c n && bit (get_or words c 0) c)
@@ -140,12 +140,6 @@ differ-one i n words rows all l S c =
           ∙ ap₂ ◌||◌ (S c).held (bit-xor (get_or words i 0) (get_or rows i 0) c));
     }
 
--- ---- the square that begins at column 0
-pub turned_left : {n : ℕ} {rows rows' : List ℕ} → Transposed n rows rows'
-    → (r c : ℕ) → r < n → c < n → bit (get_or rows' r 0) c ≡ bit (get_or rows c 0) r
-turned_left {n} {rows} {rows'} T r c hr hc = ap (bit (get_or rows' r 0)) (sym (zero-add c)) ∙ T.turned 0 r c left hr hc
-    ∙ ap (bit (get_or rows c 0)) (zero-add r)
-
 -- ---- the verdict
 -- a word has a bit below n exactly if what the mask leaves is not 0
 masked-some : (n w : ℕ) → not (eqb (bit_and w (2 ^ n - 1)) 0) ≡ some n (bit w)
@@ -165,9 +159,10 @@ masked-some n w = go (some n (bit w)) refl
         (λ q l. left q l ∙ some-false n (bit w) e q l ∙ sym (zero_bit q))))
 
 -- the transpose of the copy is that of the words
-pub turned-back : (n : ℕ) (words rows rows' : List ℕ) → Copied n words rows → Transposed n rows rows'
+pub turned-back : (n : ℕ) (words rows rows' : List ℕ) → Copied n words rows
+    → ((r c : ℕ) → r < n → c < n → bit (get_or rows' r 0) c ≡ bit (get_or rows c 0) r)
     → (r c : ℕ) → r < n → c < n → bit (get_or rows' r 0) c ≡ bit (get_or words c 0) r
-turned-back n words rows rows' C T r c hr hc = turned_left T r c hr hc ∙ ap (λ w. bit w r) (C.same c hc)
+turned-back n words rows rows' C turned r c hr hc = turned r c hr hc ∙ ap (λ w. bit w r) (C.same c hc)
 
 pub square-verdict : (n : ℕ) (words rows : List ℕ) (own w m : ℕ)
     → ((r c : ℕ) → r < n → c < n → bit (get_or rows r 0) c ≡ bit (get_or words c 0) r)

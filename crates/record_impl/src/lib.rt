@@ -1,4 +1,3 @@
 // The lines of a record, read off lent buffers; the generators of a record.
 pub mod checks;
 pub mod expansion;
-pub mod simple;

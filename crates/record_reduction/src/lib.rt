@@ -39,8 +39,8 @@ pub fn load_list(n: usize, signs: &[u8], z: &[u64], x: &[u64], minuses: &mut u64
 
 // The reduced record of the tableau's group, where its rows are independent: then it is written, and the answer is
 // true. All work is done on the array and the word of signs that were passed by value, and no call in it has the array
-// but the last. Between the first loop and the end the signs are relative to the rows' pairs of Y; at the end no row
-// has a pair. The word pivots names the columns that have a pivot, and so their rows.
+// but the last. Between the first loop and the end the signs are relative to the rows' pairs of Y; at the end no row has
+// a pair. The word pivots names the columns that have a pivot, and so their rows.
 pub fn reduce_tableau(
     mut rows: [[u64; 2]; 64],
     mut signs: u64,

@@ -1,4 +1,5 @@
-// What the letters Y of a row say of its sign: whether their pairs are odd in number.
+// The passes of the elimination over the columns: what they do to the rows is in specs and proofs, the code that does it
+// in `reduce_tableau` of lib.rt. Here is what a row's Y say of its sign.
 ghost use Rattle.std.specs.Prelude.{◌≡◌};
 ghost use Rattle.record_reduction.specs.internal.Relative.{half_y};
 

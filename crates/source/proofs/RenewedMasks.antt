@@ -115,8 +115,7 @@ module _ (s : Word) (u : UsedRecord) (q k : ℕ) (long : length u.held.codes ≡
         kept : List ℕ
         kept = (masked s u).held.codes
 
-        at : (t : ℕ) → t < n → Dec (t ≡ q)
-            → cond (s t) (get_or (set u.held.codes q k) t 0) 8 ≡ get_or (set kept q k) t 0
+        at : (t : ℕ) → t < n → Dec (t ≡ q) → cond (s t) (get_or (set u.held.codes q k) t 0) 8 ≡ get_or (set kept q k) t 0
         at t l (no d) = ap (λ c. cond (s t) c 8) (get_or-set_other u.held.codes q t k 0 d) ∙ sym (tabulate-at n _ t l)
             ∙ sym (get_or-set_other kept q t k 0 d)
         at t l (yes d) =

@@ -1,2 +1,1 @@
-// Named states in a store: see specs/ for its places and lines and what a save and a forget leave, and proofs/ for the
-// laws.
+// Named states in a store: see specs/ for its places and lines and what a save and a forget leave, and proofs/ for the laws.

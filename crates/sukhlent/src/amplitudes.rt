@@ -1,5 +1,5 @@
 // The amplitudes of a record, as C sees them.
-ghost use Rattle.calls.specs.Amplitudes.{amplitude_call, lent_plot};
+ghost use Rattle.calls.specs.Amplitudes.{amplitude_call};
 ghost use Rattle.buffers.specs.Calls.{Call};
 ghost use Rattle.operations.specs.Used.{used_record};
 
@@ -17,8 +17,7 @@ pub extern "C" fn sukhlent_amplitude(
     p: &mut u64,
 ) -> u8
     ensures { Call (amplitude_call (used_record n neighbours.now codes.now used) y
-        (lent_plot re.old im.old p.old)
-        (lent_plot re.new im.new p.new)) result }
+        re.old im.old p.old re.new im.new p.new) result }
 {
     call_readings::amplitudes::amplitude(n, neighbours, codes, used, y, re, im, p)
 }

@@ -1,5 +1,5 @@
 // The comparison of two lists, and of two records, as C sees them.
-ghost use Rattle.calls.specs.Comparisons.{compare_call, lent_choice};
+ghost use Rattle.calls.specs.Comparisons.{compare_call};
 ghost use Rattle.calls.specs.RecordComparisons.{compare_records_call};
 ghost use Rattle.buffers.specs.Calls.{Call};
 ghost use Rattle.record.specs.Lent.{lent_record};
@@ -23,8 +23,8 @@ pub extern "C" fn sukhlent_compare(
     ensures { Call (compare_call
         (record { n = n1; signs = signs1.now; z = z1.now; x = x1.now })
         (record { n = n2; signs = signs2.now; z = z2.now; x = x2.now })
-        (lent_choice choice.old list.old count.old)
-        (lent_choice choice.new list.new count.new)) result }
+        choice.old list.old count.old
+        choice.new list.new count.new) result }
 {
     call_compare::compare(n1, signs1, z1, x1, n2, signs2, z2, x2, choice, list, count)
 }
@@ -43,10 +43,11 @@ pub extern "C" fn sukhlent_compare_records(
     list: &mut [u8],
     count: &mut u64,
 ) -> u8
-    ensures { Call (compare_records_call (lent_record n1 neighbours1.now codes1.now)
+    ensures { Call (compare_records_call
+        (lent_record n1 neighbours1.now codes1.now)
         (lent_record n2 neighbours2.now codes2.now)
-        (lent_choice choice.old list.old count.old)
-        (lent_choice choice.new list.new count.new)) result }
+        choice.old list.old count.old
+        choice.new list.new count.new) result }
 {
     call_compare::records::compare_records(
         n1,

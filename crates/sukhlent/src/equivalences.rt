@@ -1,6 +1,5 @@
 // The comparison of two lists, and of two records, with parts of any size, as C sees it.
 ghost use Rattle.calls.specs.Equivalences.{equivalent_call, equivalent_records_call};
-ghost use Rattle.calls.specs.Comparisons.{lent_choice};
 ghost use Rattle.buffers.specs.Calls.{Call};
 ghost use Rattle.record.specs.Lent.{lent_record};
 
@@ -23,8 +22,8 @@ pub extern "C" fn sukhlent_equivalent(
     ensures { Call (equivalent_call
         (record { n = n1; signs = signs1.now; z = z1.now; x = x1.now })
         (record { n = n2; signs = signs2.now; z = z2.now; x = x2.now })
-        (lent_choice choice.old list.old count.old)
-        (lent_choice choice.new list.new count.new)) result }
+        choice.old list.old count.old
+        choice.new list.new count.new) result }
 {
     call_compare::equivalent(n1, signs1, z1, x1, n2, signs2, z2, x2, choice, list, count)
 }
@@ -43,10 +42,11 @@ pub extern "C" fn sukhlent_equivalent_records(
     list: &mut [u8],
     count: &mut u64,
 ) -> u8
-    ensures { Call (equivalent_records_call (lent_record n1 neighbours1.now codes1.now)
+    ensures { Call (equivalent_records_call
+        (lent_record n1 neighbours1.now codes1.now)
         (lent_record n2 neighbours2.now codes2.now)
-        (lent_choice choice.old list.old count.old)
-        (lent_choice choice.new list.new count.new)) result }
+        choice.old list.old count.old
+        choice.new list.new count.new) result }
 {
     call_compare::records::equivalent_records(
         n1,

@@ -1,7 +1,6 @@
 // Two groups on one record, as C sees them: the calls of one group, on its own vertices and its own four named states.
 ghost use Rattle.calls.specs.PartyStores.{party_forget_call, party_return_call, party_save_call};
 ghost use Rattle.calls.specs.Parties.{party_call, party_measure_call};
-ghost use Rattle.calls.specs.Asked.{lent_outcome, pauli_asked};
 ghost use Rattle.buffers.specs.Calls.{Call};
 ghost use Rattle.operations.specs.Steps.{complement_of, cz_on, gate_with};
 ghost use Rattle.operations.specs.Used.{used_record};
@@ -61,9 +60,9 @@ pub extern "C" fn sukhlent_group_measure(
 ) -> u8
     ensures { Call (party_measure_call word group
         (used_record n neighbours.old codes.old used.old)
-        (pauli_asked pauli qubit outcome) (lent_outcome answer.old determined.old)
-        (used_record n neighbours.new codes.new used.new)
-        (lent_outcome answer.new determined.new)) result }
+        pauli qubit outcome answer.old determined.old
+        neighbours.new codes.new used.new answer.new
+        determined.new) result }
 {
     call_parties::measure(
         n, word, group, neighbours, codes, used, pauli, qubit, outcome, answer, determined,
@@ -137,14 +136,12 @@ pub extern "C" fn sukhlent_group_return(
     held_neighbours: &[u64],
     held_codes: &[u8],
 ) -> u8
-    ensures { Call (party_return_call word group
-        (used_record n neighbours.old codes.old used.old) name
-        (record {
+    ensures { Call (party_return_call word group (used_record n neighbours.old codes.old
+        used.old) name (record {
           heads = heads.entry.now;
           neighbours = held_neighbours.now;
           codes = held_codes.now;
-        })
-        (used_record n neighbours.new codes.new used.new)) result }
+        }) neighbours.new codes.new used.new) result }
 {
     call_parties::stores::return_to(
         n,

@@ -1,5 +1,4 @@
-// The public calls as C sees them, by family. Each passes its arguments on to the proved call that has the same
-// contract.
+// The public calls as C sees them, by family. Each passes its arguments on to the proved call that has the same contract.
 pub mod amplitudes;
 pub mod comparisons;
 pub mod equivalences;

@@ -1,6 +1,6 @@
 // The calls on lists of generators and on texts of Pauli strings, as C sees them.
 ghost use Rattle.calls.specs.Lists.{check_call, reduce_unused_call};
-ghost use Rattle.calls.specs.Products.{lent_product, product_call};
+ghost use Rattle.calls.specs.Products.{product_call};
 ghost use Rattle.calls.specs.Strings.{read_strings_call, write_strings_call};
 ghost use Rattle.buffers.specs.Calls.{Call};
 
@@ -46,8 +46,8 @@ pub extern "C" fn sukhlent_product(
 ) -> u8
     ensures { Call (product_call
         (record { n = n; signs = signs.now; z = z.now; x = x.now }) chosen
-        (lent_product product_z.old product_x.old phase.old)
-        (lent_product product_z.new product_x.new phase.new)) result }
+        product_z.old product_x.old phase.old
+        product_z.new product_x.new phase.new) result }
 {
     call_lists::product::product(n, signs, z, x, chosen, product_z, product_x, phase)
 }

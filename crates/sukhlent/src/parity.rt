@@ -1,7 +1,5 @@
 // The measurement of a Pauli row of any weight, as C sees it.
 ghost use Rattle.calls.specs.Parities.{measure_row_call};
-ghost use Rattle.calls.specs.Asked.{lent_outcome, row_asked};
-ghost use Rattle.record.specs.Lent.{lent_record};
 ghost use Rattle.buffers.specs.Calls.{Call};
 ghost use Rattle.operations.specs.Used.{used_record};
 
@@ -18,10 +16,10 @@ pub extern "C" fn sukhlent_measure_row(
     answer: &mut u8,
     determined: &mut u8,
 ) -> u8
-    ensures { Call (measure_row_call (used_record n neighbours.old codes.old used)
-        (row_asked z x bit) (lent_outcome answer.old determined.old)
-        (lent_record n neighbours.new codes.new)
-        (lent_outcome answer.new determined.new)) result }
+    ensures { Call (measure_row_call
+        (used_record n neighbours.old codes.old used)
+        z x bit answer.old determined.old
+        neighbours.new codes.new answer.new determined.new) result }
 {
     call_parity::measure_row(n, neighbours, codes, used, z, x, bit, answer, determined)
 }

@@ -2,8 +2,7 @@
 ghost use Rattle.calls.specs.Cuts.{cut_call};
 ghost use Rattle.calls.specs.Expansions.{expand_call};
 ghost use Rattle.calls.specs.InPlace.{used_call, used_measure_call};
-ghost use Rattle.calls.specs.Images.{image_call, lent_image};
-ghost use Rattle.calls.specs.Asked.{lent_outcome, pauli_asked};
+ghost use Rattle.calls.specs.Images.{image_call};
 ghost use Rattle.buffers.specs.Calls.{Call};
 ghost use Rattle.operations.specs.Steps.{complement_of, cz_on, gate_with};
 ghost use Rattle.record.specs.Lent.{lent_record};
@@ -77,9 +76,9 @@ pub extern "C" fn sukhlent_measure(
 ) -> u8
     ensures { Call (used_measure_call
         (used_record n neighbours.old codes.old used.old)
-        (pauli_asked pauli qubit outcome) (lent_outcome answer.old determined.old)
-        (used_record n neighbours.new codes.new used.new)
-        (lent_outcome answer.new determined.new)) result }
+        pauli qubit outcome answer.old determined.old
+        neighbours.new codes.new used.new answer.new
+        determined.new) result }
 {
     call_gates::measure::measure(
         n, neighbours, codes, used, pauli, qubit, outcome, answer, determined,
@@ -113,9 +112,10 @@ pub extern "C" fn sukhlent_image(
     list: &mut [u8],
     count: &mut u64,
 ) -> u8
-    ensures { Call (image_call (lent_record n neighbours.now codes.now)
-        (lent_image image.old signs.old list.old count.old)
-        (lent_image image.new signs.new list.new count.new)) result }
+    ensures { Call (image_call
+        (lent_record n neighbours.now codes.now)
+        image.old signs.old list.old count.old
+        image.new signs.new list.new count.new) result }
 {
     call_readings::images::image(n, neighbours, codes, image, signs, list, count)
 }

@@ -27,9 +27,8 @@ pub extern "C" fn sukhlent_run(
           refusals = refusals.old;
           outcomes = outcomes.old;
           determined = determined.old;
-        })
-        (used_record n neighbours.new codes.new used.new) refusals.new
-        outcomes.new determined.new) result }
+        }) neighbours.new codes.new used.new
+        refusals.new outcomes.new determined.new) result }
 {
     call_run::run(
         n, neighbours, codes, used, ops, a, b, value, refusals, outcomes, determined,

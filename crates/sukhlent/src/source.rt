@@ -1,7 +1,6 @@
-// The calls of a source that goes on, as C sees them: a measurement with a bit by lot, and a new photon at a used
-// place, of a record and of a group.
+// The calls of a source that goes on, as C sees them: a measurement with a bit by lot, and a new photon at a used place, of a
+// record and of a group.
 ghost use Rattle.calls.specs.Sources.{party_observe_call, party_renew_call, observe_call, renew_call};
-ghost use Rattle.calls.specs.Asked.{lent_outcome, pauli_asked};
 ghost use Rattle.buffers.specs.Calls.{Call};
 ghost use Rattle.operations.specs.Used.{used_record};
 
@@ -20,9 +19,9 @@ pub extern "C" fn sukhlent_observe(
 ) -> u8
     ensures { Call (observe_call
         (used_record n neighbours.old codes.old used.old)
-        (pauli_asked pauli qubit bit) (lent_outcome answer.old determined.old)
-        (used_record n neighbours.new codes.new used.new)
-        (lent_outcome answer.new determined.new)) result }
+        pauli qubit bit answer.old determined.old
+        neighbours.new codes.new used.new answer.new
+        determined.new) result }
 {
     call_source::observe(
         n, neighbours, codes, used, pauli, qubit, bit, answer, determined,
@@ -63,9 +62,9 @@ pub extern "C" fn sukhlent_group_observe(
 ) -> u8
     ensures { Call (party_observe_call word group
         (used_record n neighbours.old codes.old used.old)
-        (pauli_asked pauli qubit bit) (lent_outcome answer.old determined.old)
-        (used_record n neighbours.new codes.new used.new)
-        (lent_outcome answer.new determined.new)) result }
+        pauli qubit bit answer.old determined.old
+        neighbours.new codes.new used.new answer.new
+        determined.new) result }
 {
     call_parties::source_calls::observe(
         n, word, group, neighbours, codes, used, pauli, qubit, bit, answer, determined,
@@ -85,8 +84,8 @@ pub extern "C" fn sukhlent_group_renew(
     code: u8,
 ) -> u8
     ensures { Call (party_renew_call word group
-        (used_record n neighbours.old codes.old used.old) qubit code
-        (used_record n neighbours.new codes.new used.new)) result }
+        (used_record n neighbours.old codes.old used.old)
+        qubit code neighbours.new codes.new used.new) result }
 {
     call_parties::source_calls::renew(n, word, group, neighbours, codes, used, qubit, code)
 }

@@ -49,9 +49,8 @@ pub extern "C" fn sukhlent_return(
       heads = heads.entry.now;
       neighbours = held_neighbours.now;
       codes = held_codes.now;
-    })
-        (used_record n.old neighbours.old codes.old used.old)
-        (used_record n.new neighbours.new codes.new used.new)) result }
+    }) n.old neighbours.old codes.old used.old
+        n.new neighbours.new codes.new used.new) result }
 {
     call_store::return_to(
         name,

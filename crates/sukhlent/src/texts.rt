@@ -30,8 +30,8 @@ pub extern "C" fn sukhlent_read_record(
     used: &mut u64,
 ) -> u8
     ensures { Call (read_record_call text.now
-        (used_record n.old neighbours.old codes.old used.old)
-        (used_record n.new neighbours.new codes.new used.new)) result }
+        n.old neighbours.old codes.old used.old
+        n.new neighbours.new codes.new used.new) result }
 {
     call_texts::read_record(text, n, neighbours, codes, used)
 }

@@ -7,5 +7,5 @@ ghost use Rattle.sukhlent.specs.Version.{version_number};
 pub extern "C" fn sukhlent_version() -> u32
     ensures { result ≡ version_number }
 {
-    10000
+    1600
 }

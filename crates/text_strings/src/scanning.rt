@@ -4,8 +4,7 @@ ghost use Rattle.pauli.specs.Pauli.{x_bit, z_bit};
 ghost use Rattle.stabilizer.specs.Lists.{list_of};
 ghost use Rattle.text.specs.Reading.{byte_at, is_letter, letter_of, row_of};
 ghost use Rattle.text.specs.Strings.{text_size};
-ghost use Rattle.text_strings.specs.internal.Generators.{LettersFit, LinesFit, both_words};
-ghost use Rattle.text_strings.specs.internal.Generators.{generator_in, letters_from};
+ghost use Rattle.text_strings.specs.internal.Generators.{LettersFit, LinesFit, both_words, generator_in, letters_from};
 ghost use Rattle.words.specs.Bits.{digit};
 
 use buffers::sign_digit;

@@ -13,7 +13,7 @@ use lib.Seq.{get_or-set_other, get_or-set_same}
 use borrow.Author.Tests.{not-true}
 use Rattle.words.specs.Bits.{bit}
 use Rattle.words.proofs.PairWords.{lower-bit, upper-bit}
-use Rattle.words.specs.internal.Squares.{Exchanged, Fits, Offset, Round, crossed, lacks, left, right}
+use Rattle.words.specs.internal.Squares.{Exchanged, Fits, Round, crossed, lacks}
 
 -- the upper row of the pair that row r is in
 abbrev pub upper : ℕ → ℕ → ℕ
@@ -21,9 +21,9 @@ upper s r = cond (lacks s r) r (r - s)
 
 -- the pairs whose upper row is below k are exchanged, the others as they were
 pub record Upto (m s k : ℕ) (rows₀ rows : List ℕ) : Type 0 where
-  pub long : length rows ≡ 32
-  pub done : (o r c : ℕ) → Offset o → r < m → c < m → upper s r < k
-      → bit (get_or rows r 0) (o + c) ≡ bit (get_or rows₀ (crossed s r c) 0) (o + crossed s c r)
+  pub long : length rows ≡ 64
+  pub done : (r c : ℕ) → r < m → c < m → upper s r < k
+      → bit (get_or rows r 0) c ≡ bit (get_or rows₀ (crossed s r c) 0) (crossed s c r)
   pub kept : (r : ℕ) → r < m → k ≤ upper s r → get_or rows r 0 ≡ get_or rows₀ r 0
 
 -- ---- crossed, by what the two lack
@@ -37,27 +37,21 @@ below-lacks : (s i : ℕ) → i < s → lacks s i ≡ true
 unfolding lacks
 below-lacks s i l = ap (λ v. eqb (v % 2) 0) (div-eq_of_lt l)
 
-pub nothing-exchanged : (m s : ℕ) (rows : List ℕ) → length rows ≡ 32 → m ≤ s → Exchanged m s rows rows
+pub nothing-exchanged : (m s : ℕ) (rows : List ℕ) → length rows ≡ 64 → m ≤ s → Exchanged m s rows rows
 nothing-exchanged m s rows long l =
     record {
       long = long;
       inside = λ r c hr hc. subst (λ v. v < m) (sym (same r c hr hc)) hr;
-      moved = λ o r c ho hr hc.
-          ap₂ (λ u v. bit (get_or rows u 0) (o + v)) (sym (same r c hr hc)) (sym (same c r hc hr));
+      moved = λ r c hr hc. ap₂ (λ u v. bit (get_or rows u 0) v) (sym (same r c hr hc)) (sym (same c r hc hr));
     }
   where
     same : (r c : ℕ) → r < m → c < m → crossed s r c ≡ r
     same r c hr hc = crossed-by s r c (below-lacks s r (lt_of_lt_of_le hr l)) (below-lacks s c (lt_of_lt_of_le hc l))
 
--- a column of either square is there
-offset-below : {o c : ℕ} → Offset o → c < 32 → o + c < 64
-offset-below left h = omega arith
-offset-below right h = omega arith
-
-module _ (m s low : ℕ) (small : m ≤ 32) (R : Round s low) (F : Fits m s) where
+module _ (m s low : ℕ) (small : m ≤ 64) (R : Round s low) (F : Fits m s) where
   -- ---- before the first pair, and after the last
-  pub none_yet : (rows : List ℕ) → length rows ≡ 32 → Upto m s 0 rows rows
-  none_yet rows long = record { long = long; done = λ o r c ho hr hc l. absurd (omega arith); kept = λ r hr l. refl }
+  pub none_yet : (rows : List ℕ) → length rows ≡ 64 → Upto m s 0 rows rows
+  none_yet rows long = record { long = long; done = λ r c hr hc l. absurd (omega arith); kept = λ r hr l. refl }
 
   upper-below : (r : ℕ) → r < m → upper s r < m
   upper-below r h = go (lacks s r)
@@ -89,7 +83,7 @@ module _ (m s low : ℕ) (small : m ≤ 32) (R : Round s low) (F : Fits m s) whe
       record {
         long = U.long;
         inside = inside;
-        moved = λ o r c ho hr hc. U.done o r c ho hr hc (lt_of_lt_of_le (upper-below r hr) l);
+        moved = λ r c hr hc. U.done r c hr hc (lt_of_lt_of_le (upper-below r hr) l);
       }
 
   -- ---- a block is passed
@@ -99,9 +93,9 @@ module _ (m s low : ℕ) (small : m ≤ 32) (R : Round s low) (F : Fits m s) whe
     block-passed k rows₀ rows l l' U =
         record {
           long = U.long;
-          done = λ o r c ho hr hc h. U.done o r c ho hr hc
+          done = λ r c hr hc h. U.done r c hr hc
               (lt_of_lt_of_le (R.ends block (upper s r) (omega arith)
-              (omega (arith, upper-below r hr)) start (upper-lacks r hr) h) l');
+              (lt_of_lt_of_le (upper-below r hr) small) start (upper-lacks r hr) h) l');
           kept = λ r hr h. U.kept r hr (omega (arith, R.positive));
         }
 
@@ -171,29 +165,22 @@ module _ (m s low : ℕ) (small : m ≤ 32) (R : Round s low) (F : Fits m s) whe
         lower-row = get_or-set_same (set rows k (bit_xor a (d * 2 ^ s % 2 ^ 64))) (k + s) (bit_xor b d) 0 lower-there
 
         -- what the two rows hold
-        upper-moved : (o c : ℕ) → c < m → (v : Bool) → lacks s c ≡ v
-            → cond v (bit a (o + c)) (bit b (o + c - s)) ≡ bit (get_or rows₀ (crossed s k c) 0) (o + crossed s c k)
-        upper-moved o c hc true e = ap (λ w. bit w (o + c)) a₀
-            ∙ ap₂ (λ u w. bit (get_or rows₀ u 0) (o + w)) (sym (crossed-by s k c lacking e))
-            (sym (crossed-by s c k e lacking))
-        upper-moved o c hc false e =
-            let within : s ≤ c = R.above c (omega arith) e in
-            let back : o + c - s ≡ o + (c - s) = omega arith in
-            ap₂ bit b₀ back
-            ∙ ap₂ (λ u w. bit (get_or rows₀ u 0) (o + w)) (sym (crossed-by s k c lacking e))
-            (sym (crossed-by s c k e lacking))
+        upper-moved : (c : ℕ) → c < m → (v : Bool) → lacks s c ≡ v
+            → cond v (bit a c) (bit b (c - s)) ≡ bit (get_or rows₀ (crossed s k c) 0) (crossed s c k)
+        upper-moved c hc true e = ap (λ w. bit w c) a₀
+            ∙ ap₂ (λ u w. bit (get_or rows₀ u 0) w) (sym (crossed-by s k c lacking e)) (sym (crossed-by s c k e lacking))
+        upper-moved c hc false e = ap (λ w. bit w (c - s)) b₀
+            ∙ ap₂ (λ u w. bit (get_or rows₀ u 0) w) (sym (crossed-by s k c lacking e)) (sym (crossed-by s c k e lacking))
 
-        lower-moved : (o c : ℕ) → c < m → (v : Bool) → lacks s c ≡ v
-            → cond v (bit a (o + c + s)) (bit b (o + c))
-            ≡ bit (get_or rows₀ (crossed s (k + s) c) 0) (o + crossed s c (k + s))
-        lower-moved o c hc true e =
+        lower-moved : (c : ℕ) → c < m → (v : Bool) → lacks s c ≡ v
+            → cond v (bit a (c + s)) (bit b c) ≡ bit (get_or rows₀ (crossed s (k + s) c) 0) (crossed s c (k + s))
+        lower-moved c hc true e =
             let back : k ≡ k + s - s = omega arith in
-            let further : o + c + s ≡ o + (c + s) = omega arith in
-            ap₂ bit (a₀ ∙ ap (λ u. get_or rows₀ u 0) back) further
-            ∙ ap₂ (λ u w. bit (get_or rows₀ u 0) (o + w)) (sym (crossed-by s (k + s) c having e))
+            ap (λ w. bit w (c + s)) (a₀ ∙ ap (λ u. get_or rows₀ u 0) back)
+            ∙ ap₂ (λ u w. bit (get_or rows₀ u 0) w) (sym (crossed-by s (k + s) c having e))
             (sym (crossed-by s c (k + s) e having))
-        lower-moved o c hc false e = ap (λ w. bit w (o + c)) b₀
-            ∙ ap₂ (λ u w. bit (get_or rows₀ u 0) (o + w)) (sym (crossed-by s (k + s) c having e))
+        lower-moved c hc false e = ap (λ w. bit w c) b₀
+            ∙ ap₂ (λ u w. bit (get_or rows₀ u 0) w) (sym (crossed-by s (k + s) c having e))
             (sym (crossed-by s c (k + s) e having))
 
         -- a row whose upper is k is one of the two
@@ -204,20 +191,17 @@ module _ (m s low : ℕ) (small : m ≤ 32) (R : Round s low) (F : Fits m s) whe
             go true e h = omega (arith, u)
             go false e h = omega (arith, v, R.above r (omega arith) e)
 
-        at : (o r c : ℕ) → Offset o → r < m → c < m → upper s r < k + 1 → Dec (r ≡ k) → Dec (r ≡ k + s)
-            → bit (get_or rows₂ r 0) (o + c) ≡ bit (get_or rows₀ (crossed s r c) 0) (o + crossed s c r)
-        at o r c ho hr hc l (yes e) w =
-            let few : c < 32 = omega arith in
-            subst (λ r. bit (get_or rows₂ r 0) (o + c) ≡ bit (get_or rows₀ (crossed s r c) 0) (o + crossed s c r))
-            (sym e) (ap (λ w. bit w (o + c)) upper-row ∙ upper-bit s low R a b (o + c) (offset-below ho few)
-            ∙ upper-moved o c hc (lacks s (o + c)) (sym (R.beside o c ho few)))
-        at o r c ho hr hc l (no u) (yes e) =
-            let few : c < 32 = omega arith in
-            subst (λ r. bit (get_or rows₂ r 0) (o + c) ≡ bit (get_or rows₀ (crossed s r c) 0) (o + crossed s c r))
-            (sym e) (ap (λ w. bit w (o + c)) lower-row ∙ lower-bit s low R a b (o + c) (offset-below ho few)
-            ∙ lower-moved o c hc (lacks s (o + c)) (sym (R.beside o c ho few)))
-        at o r c ho hr hc l (no u) (no v) =
-            ap (λ w. bit w (o + c)) (other r u v) ∙ U.done o r c ho hr hc (before r hr l u v)
+        at : (r c : ℕ) → r < m → c < m → upper s r < k + 1 → Dec (r ≡ k) → Dec (r ≡ k + s)
+            → bit (get_or rows₂ r 0) c ≡ bit (get_or rows₀ (crossed s r c) 0) (crossed s c r)
+        at r c hr hc l (yes e) w = subst (λ r. bit (get_or rows₂ r 0) c ≡ bit (get_or rows₀ (crossed s r c) 0)
+            (crossed s c r))
+            (sym e) (ap (λ w. bit w c) upper-row ∙ upper-bit s low R a b c (omega arith)
+            ∙ upper-moved c hc (lacks s c) refl)
+        at r c hr hc l (no u) (yes e) = subst (λ r. bit (get_or rows₂ r 0) c
+            ≡ bit (get_or rows₀ (crossed s r c) 0) (crossed s c r))
+            (sym e) (ap (λ w. bit w c) lower-row ∙ lower-bit s low R a b c (omega arith)
+            ∙ lower-moved c hc (lacks s c) refl)
+        at r c hr hc l (no u) (no v) = ap (λ w. bit w c) (other r u v) ∙ U.done r c hr hc (before r hr l u v)
 
         pub pair-exchanged : Upto m s (k + 1) rows₀
             (set (set rows k (bit_xor (get_or rows k 0)
@@ -226,7 +210,7 @@ module _ (m s low : ℕ) (small : m ≤ 32) (R : Round s low) (F : Fits m s) whe
         pair-exchanged =
             record {
               long = simp length-set U.long;
-              done = λ o r c ho hr hc l. at o r c ho hr hc l (ℕ_discrete r k) (ℕ_discrete r (k + s));
+              done = λ r c hr hc l. at r c hr hc l (ℕ_discrete r k) (ℕ_discrete r (k + s));
               kept = λ r hr l. other r (λ e. away r l (ap (upper s) e ∙ own)) (λ e. away r l (ap (upper s) e ∙ partner))
                   ∙ U.kept r hr (omega arith);
             }

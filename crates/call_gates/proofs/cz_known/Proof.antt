@@ -9,10 +9,9 @@ use Rattle.operations.proofs.UnrefusedRecords.{unrefused-codes}
 use Rattle.operations.specs.Steps.{Operation, cz_on}
 use Rattle.operations.specs.Used.{used_lines_of, UsedRecord, used_record}
 use Rattle.calls.proofs.InPlaceCalls.{as_before, in-place-done}
-use Rattle.operations.proofs.InPlaceLines.{cz-ready}
-use Rattle.operations.proofs.KnownRecords.{known-codes}
-use Rattle.call_gates.proofs.MarkedWords.{marked-words}
-use Rattle.operations.proofs.UsedInPlace.{named-as}
+use Rattle.calls.proofs.InPlaceLines.{cz-ready}
+use Rattle.call_gates.proofs.KnownRecords.{marked-words, known-codes}
+use Rattle.calls.proofs.UsedInPlace.{named-as}
 use Rattle.call_gates.proofs.cz_known.Statement.{statement}
 use Rattle.call_gates.proofs.cz_known.Tie as tie
 

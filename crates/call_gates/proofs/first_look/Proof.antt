@@ -1,7 +1,7 @@
 -- `first_look` meets its contract: one look at all codes, for line 6 and for what follows.
 use mathlib.Core.Path.{subst, sym}
 use borrow.Author.Rules.{rules}
-use Rattle.call_gates.specs.internal.Looking.{Found}
+use Rattle.call_gates.specs.internal.Knowing.{Found}
 use Rattle.call_gates.proofs.first_look.Statement.{statement}
 use Rattle.call_gates.proofs.first_look.Tie as tie
 

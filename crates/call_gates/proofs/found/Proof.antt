@@ -1,7 +1,7 @@
 -- `found` meets its contract: the vertices with a code that is odd, or 8 or more.
 use mathlib.Core.Path.{subst}
 use borrow.Author.Rules.{rules}
-use Rattle.call_gates.specs.internal.Looking.{Found}
+use Rattle.call_gates.specs.internal.Knowing.{Found}
 use Rattle.call_gates.proofs.found.Statement.{statement}
 use Rattle.call_gates.proofs.found.Tie as tie
 

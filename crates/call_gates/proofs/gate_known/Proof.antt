@@ -8,10 +8,9 @@ use Rattle.operations.proofs.UnrefusedRecords.{unrefused-codes}
 use Rattle.operations.specs.Steps.{Operation, gate_with}
 use Rattle.operations.specs.Used.{used_lines_of, UsedRecord, used_record}
 use Rattle.calls.proofs.InPlaceCalls.{as_before, in-place-done}
-use Rattle.operations.proofs.InPlaceLines.{gate-ready}
-use Rattle.operations.proofs.KnownRecords.{known-codes}
-use Rattle.call_gates.proofs.MarkedWords.{marked-words}
-use Rattle.operations.proofs.UsedInPlace.{named-as}
+use Rattle.calls.proofs.InPlaceLines.{gate-ready}
+use Rattle.call_gates.proofs.KnownRecords.{marked-words, known-codes}
+use Rattle.calls.proofs.UsedInPlace.{named-as}
 use Rattle.call_gates.proofs.gate_known.Statement.{statement}
 use Rattle.call_gates.proofs.gate_known.Tie as tie
 

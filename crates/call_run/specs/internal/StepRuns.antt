@@ -1,5 +1,5 @@
 -- What the run of a step promises. A name with a prime is what the buffer, or the lent number, holds at exit.
-use Rattle.std.specs.Prelude.{◌||◌, Bool, cond, false, not, true, List, ◌≡◌, ◌<◌, ℕ, eqb, leb}
+use Rattle.std.specs.Prelude.{Bool, cond, false, true, List, ◌≡◌, ◌<◌, ℕ, eqb}
 use Rattle.call_run.specs.internal.Waiting.{held_in, meant, meant_record}
 use Rattle.calls.specs.InPlace.{used_call}
 use Rattle.buffers.specs.Calls.{Call}
@@ -12,7 +12,6 @@ use Rattle.jobs.specs.declared.Op.TheVariants.{Complement, Cz, Gate, Measure, Ob
 use Rattle.jobs.specs.declared.Step.{Step}
 use Rattle.operations.specs.Steps.{Operation}
 use Rattle.operations.specs.Used.{UsedRecord, used_after}
-use Rattle.words.specs.Bits.{bit}
 
 -- the step's answer, and the record that it leaves
 pub record StepRun (u : UsedRecord) (s : Step) (r : Answer) (neighbours' codes' : List ℕ) (used' : ℕ) : Type 0 where
@@ -59,13 +58,6 @@ pub record WaitedStep (waiting : Bool) (u : UsedRecord) (s : Step) (r : Answer) 
   pub run : StepRun (meant waiting u) s r
       (meant_record (next_waiting s.op r.refusal waiting) (held_in u words' codes')).neighbours
       (meant_record (next_waiting s.op r.refusal waiting) (held_in u words' codes')).codes used'
-
--- a gate, and none of the lines 6, 8 and 16 holds of it
-pub record AcceptedGate (n used : ℕ) (s : Step) : Type 0 where
-  pub gate : s.op ≡ Gate
-  pub no_six : (not (eqb s.b 0) || leb 24 s.value) ≡ false
-  pub no-eight : leb n s.a ≡ false
-  pub no-sixteen : bit used s.a ≡ false
 
 -- an answer without outcome
 pub record NoOutcome (r : Answer) : Type 0 where

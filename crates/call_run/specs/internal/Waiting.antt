@@ -3,13 +3,12 @@
 use Rattle.std.specs.Prelude.{Bool, cond, true, List, ℕ, eqb}
 use Rattle.calls.specs.InPlace.{used_call, used_measure_call}
 use Rattle.calls.specs.Sources.{observe_call}
-use Rattle.calls.specs.Asked.{lent_outcome, pauli_asked}
 use Rattle.buffers.specs.Calls.{Call}
 use Rattle.operations.specs.Steps.{Operation}
 use Rattle.operations.specs.internal.InPlace.{Unrefused}
 use Rattle.record.specs.Lent.{code_numbers, held_rows, LentRecord, lent_record, neighbour_words}
 use Rattle.record.specs.Reduced.{reduced}
-use Rattle.operations.specs.Used.{UsedRecord, UsedUnrefused, used_record}
+use Rattle.operations.specs.Used.{UsedRecord, UsedUnrefused}
 
 -- the record that is meant: where one is waiting to be reduced, the reduced record of its group
 abbrev pub meant_record : Bool → LentRecord → LentRecord
@@ -48,16 +47,14 @@ pub record Stepped (waiting : Bool) (u : UsedRecord) (o : Operation) (words' cod
 pub record MeasuredStep (waiting : Bool) (u : UsedRecord) (pauli q b : ℕ) (words' codes' : List ℕ)
     (used' outcome determined k : ℕ) : Type 0 where
   pub sound : Unrefused (held_in u words' codes')
-  pub call : Call (used_measure_call (meant waiting u) (pauli_asked pauli q b) (lent_outcome 0 0)
-      (used_record u.held.n (meant_record (then_waiting k waiting) (held_in u words' codes')).neighbours
-      (meant_record (then_waiting k waiting) (held_in u words' codes')).codes used')
-      (lent_outcome outcome determined)) k
+  pub call : Call (used_measure_call (meant waiting u) pauli q b 0 0
+      (meant_record (then_waiting k waiting) (held_in u words' codes')).neighbours
+      (meant_record (then_waiting k waiting) (held_in u words' codes')).codes used' outcome determined) k
 
 -- a measurement with a bit by lot
 pub record ObservedStep (waiting : Bool) (u : UsedRecord) (pauli q b : ℕ) (words' codes' : List ℕ)
     (used' outcome determined k : ℕ) : Type 0 where
   pub sound : Unrefused (held_in u words' codes')
-  pub call : Call (observe_call (meant waiting u) (pauli_asked pauli q b) (lent_outcome 0 0)
-      (used_record u.held.n (meant_record (then_waiting k waiting) (held_in u words' codes')).neighbours
-      (meant_record (then_waiting k waiting) (held_in u words' codes')).codes used')
-      (lent_outcome outcome determined)) k
+  pub call : Call (observe_call (meant waiting u) pauli q b 0 0
+      (meant_record (then_waiting k waiting) (held_in u words' codes')).neighbours
+      (meant_record (then_waiting k waiting) (held_in u words' codes')).codes used' outcome determined) k

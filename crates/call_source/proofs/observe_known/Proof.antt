@@ -5,8 +5,8 @@ use native.Mathlib.Omega.{arith}
 use lib.Bits.{bit_or}
 use borrow.Author.Rules.{rules}
 use Rattle.buffers.specs.Refusals.{first_fitting}
-use Rattle.operations.proofs.InPlaceLines.{held-accepted, measure-ready}
-use Rattle.operations.proofs.MeasureLines.{arguments-before}
+use Rattle.calls.proofs.InPlaceLines.{held-accepted, measure-ready}
+use Rattle.calls.proofs.MeasureLines.{arguments-before}
 use Rattle.calls.proofs.SourceCalls.{observe-done}
 use Rattle.buffers.proofs.Calling.{refused}
 use Rattle.operations.specs.Steps.{argument_lines}

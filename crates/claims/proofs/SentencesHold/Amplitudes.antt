@@ -1,6 +1,6 @@
 -- What the demands say of the exported function on amplitudes, from its contract.
 use Prim.Native.Nat.{ℕ}
-use Rattle.calls.specs.Amplitudes.{amplitude_call, lent_plot}
+use Rattle.calls.specs.Amplitudes.{amplitude_call}
 use Rattle.buffers.specs.Calls.{Call}
 use Rattle.operations.specs.Used.{UsedRecord}
 use Rattle.claims.proofs.AmplitudeDemandHolds.{amplitudes-answer}
@@ -11,7 +11,7 @@ use Rattle.claims.proofs.NumbersHold.{amplitude-words, in_words}
 use Rattle.claims.specs.Numbers.{with_word_sentences}
 
 pub amplitude-says : (u : UsedRecord) (y re im p re' im' p' r : ℕ) →
-    Call (amplitude_call u y (lent_plot re im p) (lent_plot re' im' p')) r → AmplitudeSays u y re im p re' im' p' r
+    Call (amplitude_call u y re im p re' im' p') r → AmplitudeSays u y re im p re' im' p' r
 amplitude-says u y re im p re' im' p' r C =
     record {
       answered = answered (amplitudes-conform.amplitudes u y re im p re' im' p') C;

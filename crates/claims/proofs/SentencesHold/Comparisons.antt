@@ -1,7 +1,7 @@
 -- What the demands say of the exported function that compares, from its contract.
 use mathlib.Core.List.{List}
 use Prim.Native.Nat.{ℕ}
-use Rattle.calls.specs.Comparisons.{compare_call, lent_choice}
+use Rattle.calls.specs.Comparisons.{compare_call}
 use Rattle.buffers.specs.Calls.{Call}
 use Rattle.stabilizer.specs.Lists.{GeneratorList}
 use Rattle.claims.proofs.ComparedByParts.{compared-by-parts}
@@ -14,7 +14,7 @@ use Rattle.claims.proofs.NumbersHold.{compare-words, in_words}
 use Rattle.claims.specs.Numbers.{compare_sentences}
 
 pub compare-says : (l m : GeneratorList) (choice list : List ℕ) (count : ℕ) (choice' list' : List ℕ) (count' r : ℕ) →
-    Call (compare_call l m (lent_choice choice list count) (lent_choice choice' list' count')) r →
+    Call (compare_call l m choice list count choice' list' count') r →
     CompareSays l m choice list count choice' list' count' r
 compare-says l m choice list count choice' list' count' r C =
     record {

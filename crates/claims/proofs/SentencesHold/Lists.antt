@@ -2,7 +2,7 @@
 use mathlib.Core.List.{List}
 use Prim.Native.Nat.{ℕ}
 use Rattle.calls.specs.Lists.{check_call, reduce_unused_call}
-use Rattle.calls.specs.Products.{lent_product, product_call}
+use Rattle.calls.specs.Products.{product_call}
 use Rattle.calls.specs.Strings.{read_strings_call, write_strings_call}
 use Rattle.buffers.specs.Calls.{Call}
 use Rattle.stabilizer.specs.Lists.{GeneratorList}
@@ -47,8 +47,7 @@ reduce-says l nb cs used nb' cs' used' r C =
     }
 
 pub product-says : (l : GeneratorList) (chosen z x phase z' x' phase' r : ℕ) →
-    Call (product_call l chosen (lent_product z x phase) (lent_product z' x' phase')) r →
-    ProductSays l chosen z x phase z' x' phase' r
+    Call (product_call l chosen z x phase z' x' phase') r → ProductSays l chosen z x phase z' x' phase' r
 product-says l chosen z x phase z' x' phase' r C =
     record {
       answered = answered (lists-conform.products l chosen z x phase z' x' phase') C;

@@ -7,12 +7,11 @@ use Prim.Native.Nat.{ℕ}
 use Rattle.calls.specs.Cuts.{cut_call}
 use Rattle.calls.specs.Expansions.{expand_call}
 use Rattle.calls.specs.InPlace.{in_place_call, used_call, used_measure_call}
-use Rattle.calls.specs.Images.{image_call, lent_image}
-use Rattle.calls.specs.Asked.{lent_outcome, pauli_asked}
+use Rattle.calls.specs.Images.{image_call}
 use Rattle.buffers.specs.Calls.{Call}
 use Rattle.operations.specs.Steps.{complement_of, cz_on, gate_with, measurement_of, Operation, pivot_of}
 use Rattle.record.specs.Lent.{LentRecord}
-use Rattle.operations.specs.Used.{UsedRecord, used_record}
+use Rattle.operations.specs.Used.{UsedRecord}
 use Rattle.claims.proofs.Contradictions.{contradictions-refused}
 use Rattle.claims.proofs.CutDemandHolds.{complements-keep-ranks, cuts-answer, cz-keeps-ranks, gates-keep-ranks}
 use Rattle.claims.proofs.GatesFollow.{cz-follows, gates-follow}
@@ -111,8 +110,7 @@ complement-says u a nb' cs' r C =
 
 pub measure-says : (u : UsedRecord) (pauli q b answer determined : ℕ) (nb' cs' : List ℕ)
     (used' answer' determined' r : ℕ) →
-    Call (used_measure_call u (pauli_asked pauli q b) (lent_outcome answer determined)
-    (used_record u.held.n nb' cs' used') (lent_outcome answer' determined')) r →
+    Call (used_measure_call u pauli q b answer determined nb' cs' used' answer' determined') r →
     MeasureSays u pauli q b answer determined nb' cs' used' answer' determined' r
 measure-says u pauli q b answer determined nb' cs' used' answer' determined' r C =
     record {
@@ -128,8 +126,7 @@ measure-says u pauli q b answer determined nb' cs' used' answer' determined' r C
     }
 
 pub image-says : (l : LentRecord) (image signs list : List ℕ) (count : ℕ) (image' signs' list' : List ℕ)
-    (count' r : ℕ) → Call (image_call l (lent_image image signs list count)
-    (lent_image image' signs' list' count')) r →
+    (count' r : ℕ) → Call (image_call l image signs list count image' signs' list' count') r →
     ImageSays l image signs list count image' signs' list' count' r
 image-says l image signs list count image' signs' list' count' r C =
     record {

@@ -6,7 +6,7 @@ use Rattle.buffers.specs.Refusals.{other_than}
 use Rattle.calls.specs.Stores.{forget_call, return_call, save_call}
 use Rattle.buffers.specs.Calls.{Call}
 use Rattle.store.specs.Places.{Store}
-use Rattle.operations.specs.Used.{UsedRecord, used_record}
+use Rattle.operations.specs.Used.{UsedRecord}
 use Rattle.claims.proofs.StoreDemandHolds.{forgets-keep, returns-give, saves-keep}
 use Rattle.claims.proofs.StoreRefusals.{full-exactly, not-held-exactly}
 use Rattle.claims.proofs.families.Shared.{answered, at_zero}
@@ -29,8 +29,7 @@ save-says u name st heads' nb' cs' r C =
     }
 
 pub return-says : (name : ℕ) (st : Store) (n : ℕ) (nb cs : List ℕ) (used n' : ℕ) (nb' cs' : List ℕ) (used' r : ℕ) →
-    Call (return_call name st (used_record n nb cs used) (used_record n' nb' cs' used')) r →
-    ReturnSays name st n nb cs used n' nb' cs' used' r
+    Call (return_call name st n nb cs used n' nb' cs' used') r → ReturnSays name st n nb cs used n' nb' cs' used' r
 return-says name st n nb cs used n' nb' cs' used' r C =
     record {
       answered = answered (stores-conform.returns name st n nb cs used n' nb' cs' used') C;

@@ -9,7 +9,7 @@ use lib.Dec.{eqb}
 use Rattle.buffers.proofs.Lines.{none-of-all, not-held}
 use Rattle.buffers.specs.Refusals.{first_fitting, line, Refusal}
 use Rattle.calls.proofs.PairLines.{pair-numbered}
-use Rattle.calls.specs.Comparisons.{compare_call, lent_choice}
+use Rattle.calls.specs.Comparisons.{compare_call}
 use Rattle.comparison.specs.Choices.{no_choice}
 use Rattle.comparison.specs.Compared.{has_large_part, bad_counts, pair_lines}
 use Rattle.comparison.specs.ComparedPairs.{compare_list}
@@ -32,7 +32,7 @@ use Rattle.claims.specs.families.Comparisons.{
 
 -- comparisons: an accepted one has few complementations, by demand 3
 compare-conforms : (l m : GeneratorList) (choice list : List ℕ) (count : ℕ) (choice' list' : List ℕ) (count' : ℕ) →
-    Conforms (compare_call l m (lent_choice choice list count) (lent_choice choice' list' count'))
+    Conforms (compare_call l m choice list count choice' list' count')
 compare-conforms l m choice list count choice' list' count' =
     record {
       order = refl;
@@ -53,7 +53,7 @@ compare-conforms l m choice list count choice' list' count' =
 
 -- comparisons
 module _ (l m : GeneratorList) (choice list : List ℕ) (count : ℕ) (choice' list' : List ℕ) (count' r : ℕ)
-    (C : Call (compare_call l m (lent_choice choice list count) (lent_choice choice' list' count')) r) where
+    (C : Call (compare_call l m choice list count choice' list' count') r) where
   compare-exactly : (r ≡ 0) ↔ CompareFits l m choice list
   compare-exactly = (
     (λ z. let p = none-of-all (pair_lines l m choice list) _ (pair-numbered l m choice list) (sym C.number ∙ z) in

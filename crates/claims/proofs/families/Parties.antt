@@ -24,7 +24,7 @@ use Rattle.store.specs.Kept.{save_place}
 use Rattle.store.specs.Places.{Store, holds_name, others_held}
 use Rattle.operations.proofs.AcceptedSteps.{accepted-step}
 use Rattle.operations.proofs.UsedPassing.{used_step}
-use Rattle.operations.specs.Used.{UsedRecord, used_record}
+use Rattle.operations.specs.Used.{UsedRecord}
 use Rattle.words.proofs.Flags.{neither}
 use Rattle.claims.proofs.PartiesExactly.{party-exactly, own-exactly, with-last}
 use Rattle.claims.proofs.UsedExactly.{used-complement, used-cz, used-gate, used-measure}
@@ -77,8 +77,7 @@ save-fills word g u name st z =
 
 return-fills : (word g : ℕ) (u : UsedRecord) (name : ℕ) (st : Store) → first_fitting (party_named_lines word g u name st) ≡
     0
-    → EachOf Fills (party_return_call word g u name st
-    (used_record u.held.n u.held.neighbours u.held.codes u.used)).lent
+    → EachOf Fills (party_return_call word g u name st u.held.neighbours u.held.codes u.used).lent
 return-fills word g u name st z =
     let A = ((with-last word g u st 16 (not (holds_name 4 (own_places g st).heads name))).0 z).0.held.held in (
       table-fills u.held.n _ u.held.neighbours A.neighbours-length,

@@ -9,7 +9,7 @@ use native.Mathlib.Omega.{arith}
 use Rattle.buffers.proofs.Lines.{none-of-all}
 use Rattle.buffers.specs.Refusals.{first_fitting, other_than}
 use Rattle.calls.specs.Cuts.{cut_lines}
-use Rattle.calls.specs.Images.{image_call, lent_image}
+use Rattle.calls.specs.Images.{image_call}
 use Rattle.buffers.proofs.Fitting.{none-holds}
 use Rattle.buffers.specs.Calls.{Call}
 use Rattle.image.proofs.Accepted.{image-unsigned}
@@ -46,7 +46,7 @@ in_order u (pivot_of j k) = refl
 
 -- images
 image-conforms : (l : LentRecord) (g s v : List ℕ) (count : ℕ) (g' s' v' : List ℕ) (count' : ℕ) →
-    Conforms (image_call l (lent_image g s v count) (lent_image g' s' v' count'))
+    Conforms (image_call l g s v count g' s' v' count')
 image-conforms l g s v count g' s' v' count' =
     record {
       order = refl;
@@ -74,7 +74,7 @@ cut-lines u side = (
 
 -- images
 module _ (l : LentRecord) (image signs list : List ℕ) (count : ℕ) (image' signs' list' : List ℕ) (count' r : ℕ)
-    (C : Call (image_call l (lent_image image signs list count) (lent_image image' signs' list' count')) r) where
+    (C : Call (image_call l image signs list count image' signs' list' count') r) where
   abbrev others : Bool
   others = other_than l.n image || (other_than l.n signs || other_than 96 list)
 

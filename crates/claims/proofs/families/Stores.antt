@@ -24,7 +24,7 @@ use Rattle.store.proofs.PassingStores.{held-record, others-fit, store-passes}
 use Rattle.store.specs.Places.{Store, place_at}
 use Rattle.store.specs.StoreLines.{holds_line, named_lines, of_record, record_tests, save_lines, store_lines}
 use Rattle.store.specs.internal.Passing.{Passing}
-use Rattle.operations.specs.Used.{UsedRecord, used_lines, used_record}
+use Rattle.operations.specs.Used.{UsedRecord, used_lines}
 use Rattle.words.proofs.Flags.{neither}
 use Rattle.claims.proofs.StoreDemandHolds.{
   name-held,
@@ -88,7 +88,7 @@ save-fills u name st z =
 
 return-fills : (name : ℕ) (st : Store) (n : ℕ) (nb cs : List ℕ) (used : ℕ)
     → first_fitting (named_lines 8 name st (other_than 64 nb || other_than 64 cs)) ≡ 0
-    → EachOf Fills (return_call name st (used_record n nb cs used) (used_record n nb cs used)).lent
+    → EachOf Fills (return_call name st n nb cs used n nb cs used).lent
 return-fills name st n nb cs used z =
     let o = other_than 64 nb || other_than 64 cs in
     let f = neither (other_than 64 nb) (other_than 64 cs) (others-fit 8 st o (parts-named name st o z).0) in

@@ -2,7 +2,7 @@
 -- accepts, and the sentences of the demands and of the requests that speak of its answer.
 use Rattle.std.specs.Prelude.{List, ◌↔◌, ◌⊎◌, ◌≡◌, ℕ, ◌≤◌}
 use Rattle.buffers.specs.Refusals.{first_fitting}
-use Rattle.calls.specs.Comparisons.{compare_call, lent_choice}
+use Rattle.calls.specs.Comparisons.{compare_call}
 use Rattle.comparison.specs.Compared.{pair_lines}
 use Rattle.stabilizer.specs.Lists.{GeneratorList}
 use Rattle.claims.specs.Conforming.{Answered}
@@ -15,7 +15,7 @@ use Rattle.claims.specs.Numbers.{compare_sentences}
 -- sukhlent_compare: demands 1 and 3, and refusal 3 (02, §9)
 pub record CompareSays (l m : GeneratorList) (choice list : List ℕ) (count : ℕ) (choice' list' : List ℕ)
     (count' r : ℕ) : Type 0 where
-  pub answered : Answered (compare_call l m (lent_choice choice list count) (lent_choice choice' list' count')) r
+  pub answered : Answered (compare_call l m choice list count choice' list' count') r
   pub accepted : (r ≡ 0) ↔ CompareFits l m choice list
   pub numbers : FirstTrue (compare_sentences l m choice list) r
   -- demand 3 word for word; and for n up to 64 where no part is larger than 20 (02, §9)

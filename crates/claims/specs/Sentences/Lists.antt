@@ -2,7 +2,7 @@
 -- which arguments it accepts, and the sentences of the demands and of the requests that speak of its answer.
 use Rattle.std.specs.Prelude.{List, ◌↔◌, ◌≡◌, ◌*◌, ◌<◌, ℕ, get_or}
 use Rattle.calls.specs.Lists.{check_call, reduce_unused_call}
-use Rattle.calls.specs.Products.{lent_product, product_call}
+use Rattle.calls.specs.Products.{product_call}
 use Rattle.calls.specs.Strings.{read_strings_call, write_strings_call}
 use Rattle.record.specs.Lent.{held_rows, lent_record}
 use Rattle.stabilizer.specs.Groups.{SameGroup}
@@ -38,7 +38,7 @@ pub record ReduceSays (l : GeneratorList) (nb cs : List ℕ) (used : ℕ) (nb' c
 
 -- sukhlent_product: demand 1; the answer is the product by its contract
 pub record ProductSays (l : GeneratorList) (chosen z x phase z' x' phase' r : ℕ) : Type 0 where
-  pub answered : Answered (product_call l chosen (lent_product z x phase) (lent_product z' x' phase')) r
+  pub answered : Answered (product_call l chosen z x phase z' x' phase') r
   pub accepted : (r ≡ 0) ↔ ProductFits l chosen
   pub numbers : FirstTrue (product_sentences l chosen) r
   pub answer : r ≡ 0 → ProductAnswer l chosen z' x' phase'

@@ -1,19 +1,19 @@
--- What the documents say of each exported function on records, in one record: demand 1, which arguments it accepts, and
--- the sentences of the demands and of the requests that speak of its answer. That it answers as expanding, changing the
--- list and reducing would, and that it is a step of a job and an action of a session, are theorems of their own
+-- What the documents say of each exported function on records, in one record: demand 1, which arguments it
+-- accepts, and the sentences of the demands and of the requests that speak of its answer. That it answers as expanding,
+-- changing the list and reducing would, and that it is a step of a job and an action of a session, are theorems of
+-- their own
 -- (`GatesByExpanding` and the like, `ContractsAreActions`).
 use Rattle.std.specs.Prelude.{false, ◌||◌, List, ◌↔◌, ◌≡◌, ℕ}
 use Rattle.buffers.specs.Refusals.{first_fitting, other_than}
 use Rattle.calls.specs.Cuts.{cut_call}
 use Rattle.calls.specs.Expansions.{expand_call}
 use Rattle.calls.specs.InPlace.{used_call, used_measure_call}
-use Rattle.calls.specs.Images.{image_call, lent_image}
-use Rattle.calls.specs.Asked.{lent_outcome, pauli_asked}
+use Rattle.calls.specs.Images.{image_call}
 use Rattle.jobs.specs.Standing.{left}
 use Rattle.operations.specs.Steps.{complement_of, cz_on, gate_with, measurement_of}
 use Rattle.record.specs.Lent.{held_record, LentRecord, record_lines}
 use Rattle.record.specs.Records.{complement_record}
-use Rattle.operations.specs.Used.{UsedRecord, used_record}
+use Rattle.operations.specs.Used.{UsedRecord}
 use Rattle.words.specs.Bits.{Word}
 use Rattle.claims.specs.Conforming.{Answered}
 use Rattle.claims.specs.CutDemand.{CutAnswer, rank_across}
@@ -82,8 +82,7 @@ pub record ComplementSays (u : UsedRecord) (a : ℕ) (nb' cs' : List ℕ) (r : �
 -- sukhlent_measure: demands 1 and 2, and contradicted outcomes (02, §4)
 pub record MeasureSays (u : UsedRecord) (pauli q b answer determined : ℕ) (nb' cs' : List ℕ)
     (used' answer' determined' r : ℕ) : Type 0 where
-  pub answered : Answered (used_measure_call u (pauli_asked pauli q b) (lent_outcome answer determined)
-      (used_record u.held.n nb' cs' used') (lent_outcome answer' determined')) r
+  pub answered : Answered (used_measure_call u pauli q b answer determined nb' cs' used' answer' determined') r
   pub accepted : (r ≡ 0) ↔ MeasureFits u pauli q b
   pub numbers : FirstTrue (measure_sentences u pauli q b) r
   pub group : r ≡ 0 → MeasurementStands u.held pauli q b (left u.held nb' cs') answer' determined'
@@ -94,7 +93,7 @@ pub record MeasureSays (u : UsedRecord) (pauli q b answer determined : ℕ) (nb'
 -- sukhlent_image: demands 1 and 2
 pub record ImageSays (l : LentRecord) (image signs list : List ℕ) (count : ℕ) (image' signs' list' : List ℕ)
     (count' r : ℕ) : Type 0 where
-  pub answered : Answered (image_call l (lent_image image signs list count) (lent_image image' signs' list' count')) r
+  pub answered : Answered (image_call l image signs list count image' signs' list' count') r
   pub accepted : (r ≡ 0) ↔ ImageFits l image signs list
   pub numbers : FirstTrue (image_sentences l image signs list) r
   pub decided : first_fitting (record_lines l (other_than l.n image

@@ -5,7 +5,7 @@ use Rattle.std.specs.Prelude.{false, ◌||◌, List, ◌↔◌, ◌≡◌, ℕ}
 use Rattle.buffers.specs.Refusals.{other_than}
 use Rattle.calls.specs.Stores.{forget_call, return_call, save_call}
 use Rattle.store.specs.Places.{Store}
-use Rattle.operations.specs.Used.{UsedRecord, used_record}
+use Rattle.operations.specs.Used.{UsedRecord}
 use Rattle.claims.specs.Conforming.{Answered}
 use Rattle.claims.specs.StoreDemand.{ForgetKeeps, FullStore, NotHeld, ReturnGives, SaveKeeps, store_of}
 use Rattle.claims.specs.families.Stores.{ForgetFits, ReturnFits, SaveFits}
@@ -24,7 +24,7 @@ pub record SaveSays (u : UsedRecord) (name : ℕ) (st : Store) (heads' nb' cs' :
 -- of return: the record that is held under the name
 pub record ReturnSays (name : ℕ) (st : Store) (n : ℕ) (nb cs : List ℕ) (used n' : ℕ) (nb' cs' : List ℕ) (used' r : ℕ) :
     Type 0 where
-  pub answered : Answered (return_call name st (used_record n nb cs used) (used_record n' nb' cs' used')) r
+  pub answered : Answered (return_call name st n nb cs used n' nb' cs' used') r
   pub accepted : (r ≡ 0) ↔ ReturnFits name st nb cs
   pub numbers : FirstTrue (return_sentences name st nb cs) r
   pub not-held : NotHeld name st (other_than 64 nb || other_than 64 cs) r

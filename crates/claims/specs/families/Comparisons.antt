@@ -1,7 +1,7 @@
 -- The comparison of two lists: demand 1, and which arguments it accepts.
 use Rattle.std.specs.Prelude.{List, ◌↔◌, ◌≡◌, ℕ, length}
 use Rattle.buffers.specs.Refusals.{first_fitting}
-use Rattle.calls.specs.Comparisons.{compare_call, lent_choice}
+use Rattle.calls.specs.Comparisons.{compare_call}
 use Rattle.clifford.specs.Clifford.{Clifford}
 use Rattle.comparison.specs.Compared.{compare_lines}
 use Rattle.buffers.specs.Calls.{Call}
@@ -14,7 +14,7 @@ use Rattle.claims.specs.PartsDemand.{SmallParts}
 -- demand 1 of each call: its lines stand in the published order, and its answers fill their buffers
 pub record ComparisonsConform : Type 0 where
   pub comparisons : (l m : GeneratorList) (choice list : List ℕ) (count : ℕ) (choice' list' : List ℕ)
-      (count' : ℕ) → Conforms (compare_call l m (lent_choice choice list count) (lent_choice choice' list' count'))
+      (count' : ℕ) → Conforms (compare_call l m choice list count choice' list' count')
 
 -- what a buffer lent only for the answer holds makes no line true
 pub record ComparisonBuffersUnread : Type 0 where
@@ -37,5 +37,4 @@ pub record CompareFits (l m : GeneratorList) (choice list : List ℕ) : Type 0 w
 -- of each call: it is accepted exactly if its arguments fit
 pub record ComparisonsAccepted : Type 0 where
   pub compare : (l m : GeneratorList) (choice list : List ℕ) (count : ℕ) (choice' list' : List ℕ) (count' r : ℕ) →
-      Call (compare_call l m (lent_choice choice list count) (lent_choice choice' list' count')) r →
-      (r ≡ 0) ↔ CompareFits l m choice list
+      Call (compare_call l m choice list count choice' list' count') r → (r ≡ 0) ↔ CompareFits l m choice list

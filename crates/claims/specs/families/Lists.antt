@@ -2,7 +2,7 @@
 use Rattle.std.specs.Prelude.{List, ◌↔◌, ◌≡◌, ◌<◌, ◌^◌, ℕ, length}
 use Rattle.buffers.specs.Refusals.{first_fitting}
 use Rattle.calls.specs.Lists.{check_call, reduce_lines, reduce_unused_call}
-use Rattle.calls.specs.Products.{lent_product, product_call}
+use Rattle.calls.specs.Products.{product_call}
 use Rattle.calls.specs.Strings.{read_strings_call, write_strings_call}
 use Rattle.buffers.specs.Calls.{Call}
 use Rattle.stabilizer.specs.Lists.{GeneratorList, rows}
@@ -17,7 +17,7 @@ pub record ListsConform : Type 0 where
   pub reduce : (l : GeneratorList) (nb cs : List ℕ) (used : ℕ) (nb' cs' : List ℕ) (used' : ℕ) →
       Conforms (reduce_unused_call l nb cs used nb' cs' used')
   pub products : (l : GeneratorList) (chosen z x phase z' x' phase' : ℕ) →
-      Conforms (product_call l chosen (lent_product z x phase) (lent_product z' x' phase'))
+      Conforms (product_call l chosen z x phase z' x' phase')
   pub reads : (t s z x s' z' x' : List ℕ) → Conforms (read_strings_call t s z x s' z' x')
   pub writes : (l : GeneratorList) (text text' : List ℕ) → Conforms (write_strings_call l text text')
 
@@ -53,7 +53,7 @@ pub record ListsAccepted : Type 0 where
   pub reduce : (l : GeneratorList) (nb cs : List ℕ) (used : ℕ) (nb' cs' : List ℕ) (used' r : ℕ) →
       Call (reduce_unused_call l nb cs used nb' cs' used') r → (r ≡ 0) ↔ ReduceFits l nb cs
   pub product : (l : GeneratorList) (chosen z x phase z' x' phase' r : ℕ) →
-      Call (product_call l chosen (lent_product z x phase) (lent_product z' x' phase')) r → (r ≡ 0) ↔ ProductFits l chosen
+      Call (product_call l chosen z x phase z' x' phase') r → (r ≡ 0) ↔ ProductFits l chosen
   pub read-strings : (t s z x s' z' x' : List ℕ) (r : ℕ) → Call (read_strings_call t s z x s' z' x') r →
       (r ≡ 0) ↔ ReadStringsFits t s z x
   pub write-strings : (l : GeneratorList) (text text' : List ℕ) (r : ℕ) → Call (write_strings_call l text text') r →

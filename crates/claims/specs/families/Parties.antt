@@ -2,13 +2,12 @@
 use Rattle.std.specs.Prelude.{false, true, List, ◌↔◌, ◌≡◌, ◌<◌, ℕ, get_or, length}
 use Rattle.calls.specs.PartyStores.{party_forget_call, party_return_call, party_save_call}
 use Rattle.calls.specs.Parties.{party_call, party_measure_call}
-use Rattle.calls.specs.Asked.{lent_outcome, pauli_asked}
 use Rattle.buffers.specs.Calls.{Call}
 use Rattle.parties.specs.PartyStores.{own_places}
 use Rattle.parties.specs.Masks.{in_party}
 use Rattle.operations.specs.Steps.{complement_of, cz_on, gate_with, Operation}
 use Rattle.store.specs.Places.{Store, has_name, holds_name, is_held, others_held, place_at}
-use Rattle.operations.specs.Used.{UsedRecord, used_record}
+use Rattle.operations.specs.Used.{UsedRecord}
 use Rattle.words.specs.Bits.{bit}
 use Rattle.claims.specs.Arguments.{IsRecord}
 use Rattle.claims.specs.Conforming.{Conforms}
@@ -20,12 +19,11 @@ pub record PartiesConform : Type 0 where
       (party_call word g u o nb' cs')
   pub measurements : (word g : ℕ) (u : UsedRecord) (pauli q b answer determined : ℕ) (nb' cs' : List ℕ)
       (used' answer' determined' : ℕ) →
-      Conforms (party_measure_call word g u (pauli_asked pauli q b) (lent_outcome answer determined)
-      (used_record u.held.n nb' cs' used') (lent_outcome answer' determined'))
+      Conforms (party_measure_call word g u pauli q b answer determined nb' cs' used' answer' determined')
   pub saves : (word g : ℕ) (u : UsedRecord) (name : ℕ) (st : Store) (heads' nb' cs' : List ℕ) →
       Conforms (party_save_call word g u name st heads' nb' cs')
   pub returns : (word g : ℕ) (u : UsedRecord) (name : ℕ) (st : Store) (nb' cs' : List ℕ) (used' : ℕ) →
-      Conforms (party_return_call word g u name st (used_record u.held.n nb' cs' used'))
+      Conforms (party_return_call word g u name st nb' cs' used')
   pub forgets : (word g : ℕ) (u : UsedRecord) (name : ℕ) (st : Store) (heads' : List ℕ) →
       Conforms (party_forget_call word g u name st heads')
 
@@ -76,8 +74,7 @@ pub record PartiesAccepted : Type 0 where
       (r ≡ 0) ↔ (TwoParties word g u × (Own word g a × Own word g b) × CzFits u a b)
   pub measure : (word g : ℕ) (u : UsedRecord) (pauli q b answer determined : ℕ) (nb' cs' : List ℕ)
       (used' answer' determined' r : ℕ) →
-      Call (party_measure_call word g u (pauli_asked pauli q b) (lent_outcome answer determined)
-      (used_record u.held.n nb' cs' used') (lent_outcome answer' determined')) r →
+      Call (party_measure_call word g u pauli q b answer determined nb' cs' used' answer' determined') r →
       (r ≡ 0) ↔ (TwoParties word g u × Own word g q × MeasureFits u pauli q b)
   pub complement : (word g : ℕ) (u : UsedRecord) (a : ℕ) (nb' cs' : List ℕ) (r : ℕ) →
       Call (party_call word g u (complement_of a) nb' cs') r →
@@ -85,7 +82,6 @@ pub record PartiesAccepted : Type 0 where
   pub save : (word g : ℕ) (u : UsedRecord) (name : ℕ) (st : Store) (heads' nb' cs' : List ℕ) (r : ℕ) →
       Call (party_save_call word g u name st heads' nb' cs') r → (r ≡ 0) ↔ PartySaveFits word g u name st
   pub return : (word g : ℕ) (u : UsedRecord) (name : ℕ) (st : Store) (nb' cs' : List ℕ) (used' r : ℕ) →
-      Call (party_return_call word g u name st (used_record u.held.n nb' cs' used')) r →
-      (r ≡ 0) ↔ PartyNameFits word g u name st
+      Call (party_return_call word g u name st nb' cs' used') r → (r ≡ 0) ↔ PartyNameFits word g u name st
   pub forget : (word g : ℕ) (u : UsedRecord) (name : ℕ) (st : Store) (heads' : List ℕ) (r : ℕ) →
       Call (party_forget_call word g u name st heads') r → (r ≡ 0) ↔ PartyNameFits word g u name st

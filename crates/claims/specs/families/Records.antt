@@ -1,14 +1,13 @@
 -- The calls on records: demand 1, which arguments they accept, and the records that all of them take.
 use Rattle.std.specs.Prelude.{false, not, List, ◌↔◌, ◌≢◌, ◌⊎◌, ◌≡◌, ◌<◌, ◌^◌, ℕ, ◌≤◌, length}
 use Rattle.buffers.specs.Refusals.{first_fitting}
-use Rattle.calls.specs.Amplitudes.{amplitude_call, lent_plot}
+use Rattle.calls.specs.Amplitudes.{amplitude_call}
 use Rattle.calls.specs.Cuts.{cut_call}
 use Rattle.calls.specs.Expansions.{expand_call, expand_lines}
 use Rattle.calls.specs.Expectations.{expectation_call}
 use Rattle.calls.specs.InPlace.{used_call, used_measure_call}
-use Rattle.calls.specs.Images.{image_call, lent_image}
+use Rattle.calls.specs.Images.{image_call}
 use Rattle.calls.specs.Stores.{save_call}
-use Rattle.calls.specs.Asked.{lent_outcome, pauli_asked}
 use Rattle.buffers.specs.Calls.{Call}
 use Rattle.image.specs.Image.{image_lines, UnsignedGraph}
 use Rattle.operations.specs.Steps.{complement_of, cz_on, gate_with, Operation}
@@ -16,7 +15,7 @@ use Rattle.record.specs.Accepted.{AcceptedRecord}
 use Rattle.record.specs.Lent.{held_rows, LentRecord}
 use Rattle.stabilizer.specs.Groups.{InGroup}
 use Rattle.store.specs.Places.{Store, others_held}
-use Rattle.operations.specs.Used.{UsedRecord, used_record}
+use Rattle.operations.specs.Used.{UsedRecord}
 use Rattle.words.specs.Bits.{is_odd}
 use Rattle.claims.specs.Arguments.{Free, IsRecord}
 use Rattle.claims.specs.Conforming.{Conforms}
@@ -29,10 +28,9 @@ pub record RecordsConform : Type 0 where
   pub in_place : (u : UsedRecord) (o : Operation) (nb' cs' : List ℕ) → Conforms (used_call u o nb' cs')
   pub measurements : (u : UsedRecord) (pauli q b answer determined : ℕ) (nb' cs' : List ℕ)
       (used' answer' determined' : ℕ) →
-      Conforms (used_measure_call u (pauli_asked pauli q b) (lent_outcome answer determined)
-      (used_record u.held.n nb' cs' used') (lent_outcome answer' determined'))
+      Conforms (used_measure_call u pauli q b answer determined nb' cs' used' answer' determined')
   pub images : (l : LentRecord) (g s v : List ℕ) (count : ℕ) (g' s' v' : List ℕ) (count' : ℕ) →
-      Conforms (image_call l (lent_image g s v count) (lent_image g' s' v' count'))
+      Conforms (image_call l g s v count g' s' v' count')
   pub cuts : (u : UsedRecord) (side rank rank' : ℕ) → Conforms (cut_call u side rank rank')
 
 -- what a buffer lent only for the answer holds makes no line true
@@ -89,14 +87,12 @@ pub record RecordsAccepted : Type 0 where
       (r ≡ 0) ↔ CzFits u a b
   pub measure : (u : UsedRecord) (pauli q b answer determined : ℕ) (nb' cs' : List ℕ)
       (used' answer' determined' r : ℕ) →
-      Call (used_measure_call u (pauli_asked pauli q b) (lent_outcome answer determined)
-      (used_record u.held.n nb' cs' used') (lent_outcome answer' determined')) r →
+      Call (used_measure_call u pauli q b answer determined nb' cs' used' answer' determined') r →
       (r ≡ 0) ↔ MeasureFits u pauli q b
   pub complement : (u : UsedRecord) (a : ℕ) (nb' cs' : List ℕ) (r : ℕ) →
       Call (used_call u (complement_of a) nb' cs') r → (r ≡ 0) ↔ ComplementFits u a
   pub image : (l : LentRecord) (image signs list : List ℕ) (count : ℕ) (image' signs' list' : List ℕ) (count' r : ℕ) →
-      Call (image_call l (lent_image image signs list count) (lent_image image' signs' list' count')) r →
-      (r ≡ 0) ↔ ImageFits l image signs list
+      Call (image_call l image signs list count image' signs' list' count') r → (r ≡ 0) ↔ ImageFits l image signs list
   pub cut : (u : UsedRecord) (side rank rank' r : ℕ) → Call (cut_call u side rank rank') r → (r ≡ 0) ↔ CutFits u side
 
 -- a record that every call on records takes, where the other arguments are in order; a measurement may be refused
@@ -109,18 +105,15 @@ pub record TakenByAll (u : UsedRecord) : Type 0 where
   pub cz : (a b : ℕ) (nb' cs' : List ℕ) (r : ℕ) → Call (used_call u (cz_on a b) nb' cs') r → Free u a → Free u b →
       a ≢ b → r ≡ 0
   pub measure : (pauli q b answer determined : ℕ) (nb' cs' : List ℕ) (used' answer' determined' r : ℕ) →
-      Call (used_measure_call u (pauli_asked pauli q b) (lent_outcome answer determined)
-      (used_record u.held.n nb' cs' used') (lent_outcome answer' determined')) r → 1 ≤ pauli →
+      Call (used_measure_call u pauli q b answer determined nb' cs' used' answer' determined') r → 1 ≤ pauli →
       pauli ≤ 3 → Free u q → b < 2 → (r ≡ 0) ⊎ (r ≡ 14)
   pub complement : (a : ℕ) (nb' cs' : List ℕ) (r : ℕ) → Call (used_call u (complement_of a) nb' cs') r → Free u a →
       r ≡ 0
   pub image : (image signs list : List ℕ) (count : ℕ) (image' signs' list' : List ℕ) (count' r : ℕ) →
-      Call (image_call u.held (lent_image image signs list count)
-      (lent_image image' signs' list' count')) r → length image ≡ u.held.n →
+      Call (image_call u.held image signs list count image' signs' list' count') r → length image ≡ u.held.n →
       length signs ≡ u.held.n → length list ≡ 96 → (r ≡ 0) ⊎ ((r ≡ 11) ⊎ (r ≡ 12))
   pub cut : (side rank rank' r : ℕ) → Call (cut_call u side rank rank') r → side < 2 ^ u.held.n → r ≡ 0
-  pub amplitude : (y re im p re' im' p' r : ℕ) → Call (amplitude_call u y (lent_plot re im p)
-      (lent_plot re' im' p')) r →
+  pub amplitude : (y re im p re' im' p' r : ℕ) → Call (amplitude_call u y re im p re' im' p') r →
       y < 2 ^ u.held.n → r ≡ 0
   pub expectation : (z x value value' r : ℕ) → Call (expectation_call u z x value value') r → z < 2 ^ u.held.n →
       x < 2 ^ u.held.n → r ≡ 0

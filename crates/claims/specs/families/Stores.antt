@@ -5,7 +5,7 @@ use Rattle.calls.specs.Stores.{forget_call, return_call, save_call}
 use Rattle.buffers.specs.Calls.{Call}
 use Rattle.store.specs.Places.{Store, has_name, holds_name, is_held, others_held, place_at}
 use Rattle.store.specs.StoreLines.{named_lines}
-use Rattle.operations.specs.Used.{UsedRecord, used_record}
+use Rattle.operations.specs.Used.{UsedRecord}
 use Rattle.claims.specs.Arguments.{IsRecord}
 use Rattle.claims.specs.Conforming.{Conforms}
 
@@ -22,7 +22,7 @@ pub record StoresConform : Type 0 where
   pub saves : (u : UsedRecord) (name : ℕ) (st : Store) (heads' nb' cs' : List ℕ) →
       Conforms (save_call u name st heads' nb' cs')
   pub returns : (name : ℕ) (st : Store) (n : ℕ) (nb cs : List ℕ) (used n' : ℕ) (nb' cs' : List ℕ) (used' : ℕ) →
-      Conforms (return_call name st (used_record n nb cs used) (used_record n' nb' cs' used'))
+      Conforms (return_call name st n nb cs used n' nb' cs' used')
   pub forgets : (name : ℕ) (st : Store) (heads' : List ℕ) → Conforms (forget_call name st heads')
 
 -- what a buffer lent only for the answer holds makes no line true
@@ -48,7 +48,6 @@ pub record StoresAccepted : Type 0 where
   pub save : (u : UsedRecord) (name : ℕ) (st : Store) (heads' nb' cs' : List ℕ) (r : ℕ) →
       Call (save_call u name st heads' nb' cs') r → (r ≡ 0) ↔ SaveFits u name st
   pub return : (name : ℕ) (st : Store) (n : ℕ) (nb cs : List ℕ) (used n' : ℕ) (nb' cs' : List ℕ) (used' r : ℕ) →
-      Call (return_call name st (used_record n nb cs used) (used_record n' nb' cs' used')) r →
-      (r ≡ 0) ↔ ReturnFits name st nb cs
+      Call (return_call name st n nb cs used n' nb' cs' used') r → (r ≡ 0) ↔ ReturnFits name st nb cs
   pub forget : (name : ℕ) (st : Store) (heads' : List ℕ) (r : ℕ) →
       Call (forget_call name st heads') r → (r ≡ 0) ↔ ForgetFits name st

@@ -8,13 +8,12 @@ use Rattle.record.specs.Records.{SameRecord, complement_record}
 use Prim.Native.Nat.{ℕ}
 use Rattle.calls.specs.PartyStores.{party_forget_call, party_return_call, party_save_call}
 use Rattle.calls.specs.Parties.{party_call, party_measure_call}
-use Rattle.calls.specs.Asked.{lent_outcome, pauli_asked}
 use Rattle.claims.proofs.families.Parties.{parties-accepted, parties-conform}
 use Rattle.claims.proofs.families.Shared.{answered, at_zero}
 use Rattle.buffers.specs.Calls.{Call}
 use Rattle.operations.specs.Steps.{complement_of, cz_on, gate_with}
 use Rattle.store.specs.Places.{Store}
-use Rattle.operations.specs.Used.{UsedRecord, used_record}
+use Rattle.operations.specs.Used.{UsedRecord}
 use Rattle.claims_parties.proofs.CallsStand.{party-calls-stand}
 use Rattle.claims_parties.proofs.PartyKeepsHold.{
   party-calls-keep,
@@ -95,8 +94,7 @@ module _ (word g : ℕ) (u : UsedRecord) where
       }
 
   pub group-measure-says : (pauli q b answer determined : ℕ) (nb' cs' : List ℕ) (used' answer' determined' r : ℕ) →
-      Call (party_measure_call word g u (pauli_asked pauli q b) (lent_outcome answer determined)
-      (used_record u.held.n nb' cs' used') (lent_outcome answer' determined')) r →
+      Call (party_measure_call word g u pauli q b answer determined nb' cs' used' answer' determined') r →
       GroupMeasureSays word g u pauli q b answer determined nb' cs' used' answer' determined' r
   group-measure-says pauli q b answer determined nb' cs' used' answer' determined' r C =
       record {
@@ -126,8 +124,7 @@ module _ (word g : ℕ) (u : UsedRecord) where
       }
 
   pub group-return-says : (name : ℕ) (st : Store) (nb' cs' : List ℕ) (used' r : ℕ) →
-      Call (party_return_call word g u name st (used_record u.held.n nb' cs' used')) r →
-      GroupReturnSays word g u name st nb' cs' used' r
+      Call (party_return_call word g u name st nb' cs' used') r → GroupReturnSays word g u name st nb' cs' used' r
   group-return-says name st nb' cs' used' r C =
       record {
         answered = answered (parties-conform.returns word g u name st nb' cs' used') C;

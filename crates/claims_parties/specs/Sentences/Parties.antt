@@ -6,7 +6,6 @@ use Rattle.calls.specs.InPlace.{used_call, used_measure_call}
 use Rattle.calls.specs.PartyStores.{party_forget_call, party_return_call, party_save_call}
 use Rattle.calls.specs.Parties.{party_call, party_measure_call}
 use Rattle.calls.specs.Sources.{party_observe_call, party_renew_call, observe_call, renew_call}
-use Rattle.calls.specs.Asked.{lent_outcome, pauli_asked}
 use Rattle.claims.specs.Conforming.{Answered}
 use Rattle.claims.specs.UsedDemand.{left_used}
 use Rattle.claims.specs.families.Parties.{PartyNameFits, PartySaveFits, Own, TwoParties}
@@ -18,7 +17,7 @@ use Rattle.jobs.specs.Standing.{left}
 use Rattle.record.specs.Lent.{held_record}
 use Rattle.record.specs.Records.{SameRecord, complement_record}
 use Rattle.store.specs.Places.{Store}
-use Rattle.operations.specs.Used.{UsedRecord, used_record}
+use Rattle.operations.specs.Used.{UsedRecord}
 use Rattle.operations.specs.UsedSentences.{IsUsed, NoRecord, OfSix, StrayBit}
 use Rattle.record.specs.RecordSentences.{CodeAbove23, RecordMisfits}
 use Rattle.claims_parties.specs.PartyKeeps.{
@@ -80,15 +79,13 @@ pub record GroupComplementSays (word g : ℕ) (u : UsedRecord) (a : ℕ) (nb' cs
 -- sukhlent_group_measure: its outcome, determined bit and used word are those of the whole-record call too
 pub record GroupMeasureSays (word g : ℕ) (u : UsedRecord) (pauli q b answer determined : ℕ) (nb' cs' : List ℕ)
     (used' answer' determined' r : ℕ) : Type 0 where
-  pub answered : Answered (party_measure_call word g u (pauli_asked pauli q b) (lent_outcome answer determined)
-      (used_record u.held.n nb' cs' used') (lent_outcome answer' determined')) r
+  pub answered : Answered (party_measure_call word g u pauli q b answer determined nb' cs' used' answer' determined') r
   pub accepted : (r ≡ 0) ↔ (TwoParties word g u × Own word g q × MeasureFits u pauli q b)
   pub numbers : FirstTrue (party_measure_sentences word g u pauli q b) r
   pub keeps : r ≡ 0 → PartyKeeps word g u (left_used u nb' cs' used')
   pub reduces : r ≡ 0 → PartyReduced word g (left_used u nb' cs' used')
   pub stands : r ≡ 0 → (r'' : ℕ) (nb'' cs'' : List ℕ) (used'' answer'' determined'' : ℕ) →
-      Call (used_measure_call u (pauli_asked pauli q b) (lent_outcome answer determined)
-      (used_record u.held.n nb'' cs'' used'') (lent_outcome answer'' determined'')) r'' →
+      Call (used_measure_call u pauli q b answer determined nb'' cs'' used'' answer'' determined'') r'' →
       StandsAsWhole u nb' cs' r'' nb'' cs'' × (answer' ≡ answer'') × (determined' ≡ determined'') × (used' ≡ used'')
 
 -- sukhlent_group_save
@@ -103,7 +100,7 @@ pub record GroupSaveSays (word g : ℕ) (u : UsedRecord) (name : ℕ) (st : Stor
 -- sukhlent_group_return
 pub record GroupReturnSays (word g : ℕ) (u : UsedRecord) (name : ℕ) (st : Store) (nb' cs' : List ℕ) (used' r : ℕ) :
     Type 0 where
-  pub answered : Answered (party_return_call word g u name st (used_record u.held.n nb' cs' used')) r
+  pub answered : Answered (party_return_call word g u name st nb' cs' used') r
   pub accepted : (r ≡ 0) ↔ PartyNameFits word g u name st
   pub numbers : FirstTrue (party_named_sentences word g u name st) r
   pub not-held : PartyNotHeld word g u name st r
@@ -126,20 +123,17 @@ pub record GroupForgetSays (word g : ℕ) (u : UsedRecord) (name : ℕ) (st : St
 -- sukhlent_group_observe: its outcome, determined bit and used word are those of the whole-record call too
 pub record GroupObserveSays (word g : ℕ) (u : UsedRecord) (pauli q b answer determined : ℕ) (nb' cs' : List ℕ)
     (used' answer' determined' r : ℕ) : Type 0 where
-  pub answered : Answered (party_observe_call word g u (pauli_asked pauli q b) (lent_outcome answer determined)
-      (used_record u.held.n nb' cs' used') (lent_outcome answer' determined')) r
+  pub answered : Answered (party_observe_call word g u pauli q b answer determined nb' cs' used' answer' determined') r
   pub accepted : (r ≡ 0) ↔ (TwoParties word g u × Own word g q × ObserveFits u pauli q b)
   pub numbers : FirstTrue (party_argument_sentences word g u pauli q b) r
   pub never-14 : r ≡ 14 → ⊥
   -- accepted, it is the party's measurement with the outcome that it answers
   pub as-measured : r ≡ 0 →
-      Call (party_measure_call word g u (pauli_asked pauli q answer') (lent_outcome answer determined)
-      (used_record u.held.n nb' cs' used') (lent_outcome answer' determined')) 0
+      Call (party_measure_call word g u pauli q answer' answer determined nb' cs' used' answer' determined') 0
   pub keeps : r ≡ 0 → PartyKeeps word g u (left_used u nb' cs' used')
   pub reduces : r ≡ 0 → PartyReduced word g (left_used u nb' cs' used')
   pub stands : r ≡ 0 → (r'' : ℕ) (nb'' cs'' : List ℕ) (used'' answer'' determined'' : ℕ) →
-      Call (observe_call u (pauli_asked pauli q b) (lent_outcome answer determined)
-      (used_record u.held.n nb'' cs'' used'') (lent_outcome answer'' determined'')) r'' →
+      Call (observe_call u pauli q b answer determined nb'' cs'' used'' answer'' determined'') r'' →
       StandsAsWhole u nb' cs' r'' nb'' cs'' × (answer' ≡ answer'') × (determined' ≡ determined'') × (used' ≡ used'')
 
 -- the lines of a party's renewal. 6: the code is none of the six; 19: "checked directly before 8"; 20: the qubit is not
@@ -153,7 +147,7 @@ party_renew_sentences word g u q k =
 
 -- sukhlent_group_renew: what it leaves is what the whole-record call leaves
 pub record GroupRenewSays (word g : ℕ) (u : UsedRecord) (q k : ℕ) (nb' cs' : List ℕ) (used' r : ℕ) : Type 0 where
-  pub answered : Answered (party_renew_call word g u q k (used_record u.held.n nb' cs' used')) r
+  pub answered : Answered (party_renew_call word g u q k nb' cs' used') r
   pub accepted : (r ≡ 0) ↔ (TwoParties word g u × Own word g q × RenewFits u q k)
   pub numbers : FirstTrue (party_renew_sentences word g u q k) r
   pub whole : r ≡ 0 → Call (renew_call u q k nb' cs' used') 0

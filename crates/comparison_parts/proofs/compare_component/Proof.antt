@@ -15,6 +15,8 @@ use borrow.Author.Rules.{rules}
 use Rattle.comparison_parts.proofs.compare_component.Statement.{statement}
 use Rattle.comparison_parts.proofs.compare_component.Tie as tie
 
+-- src/lib.rt:85:8
+-- src/lib.rt:86:9
 returns : tie.Need-returns
 returns c =
     let S = c.before.before.before.before.before.before in
@@ -25,26 +27,35 @@ returns c =
       S.requires.1.1,
     )
 
+-- src/lib.rt:103:9
+-- src/lib.rt:103:9
 slice-aggregate-compare-listed : tie.Need-slice-aggregate-compare-listed
 slice-aggregate-compare-listed c =
     let K = c.before.before.before in
     sym (part-long _ _ K.vertices.ensures.0 refl)
 
+-- src/lib.rt:104:9
+-- src/lib.rt:104:9
 slice-aggregate-compare-listed-2 : tie.Need-slice-aggregate-compare-listed-2
 slice-aggregate-compare-listed-2 c =
     let K = c.before.before.before.before in
     sym (part-long _ _ K.vertices.ensures.0 refl)
 
+-- src/lib.rt:105:9
+-- src/lib.rt:105:9
 slice-aggregate-compare-listed-3 : tie.Need-slice-aggregate-compare-listed-3
 slice-aggregate-compare-listed-3 c =
     let K = c.before.before.before.before.before in
     sym (part-long _ _ K.vertices.ensures.0 refl)
 
+-- src/lib.rt:106:9
+-- src/lib.rt:106:9
 slice-aggregate-compare-listed-4 : tie.Need-slice-aggregate-compare-listed-4
 slice-aggregate-compare-listed-4 c =
     let K = c.before.before.before.before.before.before in
     sym (part-long _ _ K.vertices.ensures.0 refl)
 
+-- src/lib.rt:95:9
 compare-listed-requires : tie.Need-compare-listed-requires
 compare-listed-requires c κs =
     let K = c.before.before.before.before.before.before in
@@ -68,6 +79,7 @@ compare-listed-requires c κs =
       ),
     )
 
+-- src/lib.rt:109:9
 returns-2 : tie.Need-returns-2
 returns-2 c =
     let L = c.before.before.before.before.before.before in
@@ -88,12 +100,14 @@ returns-2 c =
       L.compare-listed.ensures.1,
     )
 
+-- src/lib.rt:112:9
 placed-requires : tie.Need-placed-requires
 placed-requires c κs =
     let K = c.before.before.before.before.before.before.before.before.before.before.before.before.before.before in
     let N = K.vertices.ensures in
     (N.0, N.1.below, N.1.rising)
 
+-- src/lib.rt:71:1
 returns-3 : tie.Need-returns-3
 returns-3 c =
     let E = c.before.before in

@@ -31,6 +31,8 @@ invariant-loop n neighbours codes neighbours2 codes2 table₀ choice₀ rest₀ 
 abbrev decreases-loop : tie.decreases-loop
 decreases-loop n neighbours codes neighbours2 codes2 table₀ choice₀ rest₀ table choice rest = rest
 
+-- src/lib.rt:131:9
+-- src/lib.rt:132:5
 loop-holds : tie.Need-loop-init invariant-loop decreases-loop
 loop-holds c =
     let S = c.before.before.before.before.before in
@@ -40,6 +42,8 @@ loop-holds c =
       empty-rows,
     )
 
+-- src/lib.rt:133:13
+-- src/lib.rt:134:13
 part-requires : tie.Need-part-requires invariant-loop decreases-loop
 part-requires c κs =
     let L = c.before.before in
@@ -55,6 +59,7 @@ part-requires c κs =
       subst (λ m. Simple m (graph_in a.neighbours.now)) (sym F.neighbours-long) F.simple,
     )
 
+-- src/lib.rt:135:13
 compare-component-requires : tie.Need-compare-component-requires invariant-loop decreases-loop
 compare-component-requires c κs =
     let P = c.before in
@@ -71,6 +76,7 @@ compare-component-requires c κs =
       ),
     )
 
+-- src/lib.rt:138:13
 returns : tie.Need-returns invariant-loop decreases-loop
 returns c =
     let I = c.before.before.before in
@@ -87,6 +93,7 @@ returns c =
     I.compare-component.result.choice) (not-true _ c.if1.true)
     I.compare-component.ensures.0)
 
+-- src/lib.rt:132:5
 loop-less : tie.Need-loop-smaller invariant-loop decreases-loop
 loop-less c =
     let I = c.before.before.before in
@@ -99,6 +106,7 @@ loop-less c =
     L.loop.rest L.loop.choice L.loop.invariant.0
     Q.before.loop-test.true _ Q.smallest.ensures.0 _ P.part.ensures
 
+-- src/lib.rt:132:5
 loop-again : tie.Need-loop-preserved invariant-loop decreases-loop
 loop-again c =
     let I = c.before.before.before in
@@ -117,6 +125,7 @@ loop-again c =
       I.compare-component.ensures.1,
     )
 
+-- src/lib.rt:118:1
 returns-2 : tie.Need-returns-2 invariant-loop decreases-loop
 returns-2 c =
     let S = c.before.before.before.before.before.before.before in

@@ -10,7 +10,7 @@ use Rattle.cut_impl.proofs.Remainders.{
   reduced-once,
   reducing-start,
   smallest-below,
-  smallest-less,
+  smallest-rises,
 }
 use Rattle.cut_impl.proofs.remainder.Statement.{statement}
 use Rattle.cut_impl.proofs.remainder.Tie as tie
@@ -40,7 +40,7 @@ loop-less : tie.Need-loop-smaller invariant-loop decreases-loop
 loop-less c =
     let P = c.before.before in
     let L = P.before.before in
-    smallest-less _ L.before.requires _ _ L.loop.invariant P.before.loop-test.true _ P.smallest.ensures.0
+    smallest-rises _ L.before.requires _ _ L.loop.invariant P.before.loop-test.true _ P.smallest.ensures.0
     c.if1.false
 
 loop-again : tie.Need-loop-preserved invariant-loop decreases-loop

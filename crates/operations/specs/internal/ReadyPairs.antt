@@ -11,4 +11,4 @@ crossed k = bit_c k && bit_d k
 pub record Ready (r : GraphRecord) (a b : ℕ) : Type 0 where
   pub first : crossed (r.codes a) ≡ false
   pub second : crossed (r.codes b) ≡ false
-  pub separate : bit_c (r.codes a) ≡ true → bit_c (r.codes b) ≡ true → r.graph a b ≡ false
+  pub parted : bit_c (r.codes a) ≡ true → bit_c (r.codes b) ≡ true → r.graph a b ≡ false

@@ -1,6 +1,5 @@
 // Two groups on one record: what the request says of the calls of one group.
-ghost use Rattle.claims_parties.specs.Sentences.Parties.{GroupComplementSays, GroupCzSays};
-ghost use Rattle.claims_parties.specs.Sentences.Parties.{GroupForgetSays, GroupGateSays};
+ghost use Rattle.claims_parties.specs.Sentences.Parties.{GroupComplementSays, GroupCzSays, GroupForgetSays, GroupGateSays};
 ghost use Rattle.claims_parties.specs.Sentences.Parties.{GroupMeasureSays, GroupReturnSays, GroupSaveSays};
 ghost use Rattle.operations.specs.Used.{used_record};
 

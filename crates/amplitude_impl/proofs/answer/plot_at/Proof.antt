@@ -11,8 +11,8 @@ array-borrow-prefix-words c =
     let start = c.before.before in
     unrefused-short _ _ start.requires
 
-slice-aggregate-line-by-copy : tie.Need-slice-aggregate-line-by-copy
-slice-aggregate-line-by-copy c =
+slice-aggregate-line-by-copies : tie.Need-slice-aggregate-line-by-copies
+slice-aggregate-line-by-copies c =
     let start = c.before.before.before in
     sym (part-long _ _ (unrefused-short _ _ start.requires) refl)
 
@@ -21,19 +21,46 @@ array-borrow-prefix-bytes c =
     let start = c.before.before.before in
     unrefused-short _ _ start.requires
 
-slice-aggregate-line-by-copy-2 : tie.Need-slice-aggregate-line-by-copy-2
-slice-aggregate-line-by-copy-2 c =
+slice-aggregate-line-by-copies-2 : tie.Need-slice-aggregate-line-by-copies-2
+slice-aggregate-line-by-copies-2 c =
     let start = c.before.before.before.before in
     sym (part-long _ _ (unrefused-short _ _ start.requires) refl)
 
-line-by-copy-requires : tie.Need-line-by-copy-requires
-line-by-copy-requires c κs =
+array-borrow-prefix-measured : tie.Need-array-borrow-prefix-measured
+array-borrow-prefix-measured c =
     let start = c.before.before.before.before in
+    unrefused-short _ _ start.requires
+
+slice-aggregate-line-by-copies-3 : tie.Need-slice-aggregate-line-by-copies-3
+slice-aggregate-line-by-copies-3 c =
+    let start = c.before.before.before.before.before in
+    sym (part-long _ _ (unrefused-short _ _ start.requires) refl)
+
+array-borrow-prefix-numbers : tie.Need-array-borrow-prefix-numbers
+array-borrow-prefix-numbers c =
+    let start = c.before.before.before.before.before in
+    unrefused-short _ _ start.requires
+
+slice-aggregate-line-by-copies-4 : tie.Need-slice-aggregate-line-by-copies-4
+slice-aggregate-line-by-copies-4 c =
+    let start = c.before.before.before.before.before.before in
+    sym (part-long _ _ (unrefused-short _ _ start.requires) refl)
+
+line-by-copies-requires : tie.Need-line-by-copies-requires
+line-by-copies-requires c κs =
+    let start = c.before.before.before.before.before.before in
     let U = start.requires in
-    let short = unrefused-short _ _ U in (U, (part-long _ _ short refl, part-long _ _ short refl))
+    let short = unrefused-short _ _ U in (
+      U,
+      (
+        (part-long _ _ short refl, part-long _ _ short refl),
+        (part-long _ _ short refl, part-long _ _ short refl),
+      ),
+    )
 
 pub plot-at-spec : {M : Type 1} → statement M
 plot-at-spec =
     tie.close
-    (tie.spec array-borrow-prefix-words slice-aggregate-line-by-copy array-borrow-prefix-bytes
-    slice-aggregate-line-by-copy-2 line-by-copy-requires (λ c. search rules))
+    (tie.spec array-borrow-prefix-words slice-aggregate-line-by-copies array-borrow-prefix-bytes
+    slice-aggregate-line-by-copies-2 array-borrow-prefix-measured slice-aggregate-line-by-copies-3
+    array-borrow-prefix-numbers slice-aggregate-line-by-copies-4 line-by-copies-requires (λ c. search rules))

@@ -8,8 +8,8 @@ use Rattle.buffers.proofs.Calling.{refused}
 use Rattle.operations.specs.Steps.{Operation, complement_of}
 use Rattle.operations.specs.Used.{used_lines_of, UsedRecord, used_record}
 use Rattle.calls.proofs.InPlaceCalls.{as_before, in-place-done}
-use Rattle.operations.proofs.InPlaceLines.{complement-ready}
-use Rattle.operations.proofs.UsedInPlace.{named-as}
+use Rattle.calls.proofs.InPlaceLines.{complement-ready}
+use Rattle.calls.proofs.UsedInPlace.{named-as}
 use Rattle.call_gates.proofs.complement.complement_known.Statement.{statement}
 use Rattle.call_gates.proofs.complement.complement_known.Tie as tie
 

@@ -5,8 +5,8 @@ use borrow.Author.Rules.{rules}
 use borrow.Author.Tests.{not-false}
 use Rattle.buffers.specs.Refusals.{first_fitting}
 use Rattle.calls.proofs.InPlaceCalls.{in-place-done}
-use Rattle.operations.proofs.InPlaceLines.{pair-below, pair-ready, pair_lines}
-use Rattle.operations.proofs.UsedInPlace.{edge-accepts, no-edge-refuses, pair-before, pair-refused}
+use Rattle.calls.proofs.InPlaceLines.{pair-below, pair-ready, pair_lines}
+use Rattle.calls.proofs.UsedInPlace.{edge-accepts, no-edge-refuses, pair-before, pair-refused}
 use Rattle.buffers.proofs.Calling.{refused}
 use Rattle.operations.specs.Steps.{pivot_of}
 use Rattle.operations.specs.Used.{UsedRecord, used_record}

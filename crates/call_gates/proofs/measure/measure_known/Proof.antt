@@ -6,8 +6,8 @@ use lib.Bits.{bit_or}
 use borrow.Author.Rules.{rules}
 use Rattle.buffers.specs.Refusals.{first_fitting}
 use Rattle.calls.proofs.InPlaceCalls.{as_before, measure-done}
-use Rattle.operations.proofs.InPlaceLines.{measure-ready}
-use Rattle.operations.proofs.MeasureLines.{measure-passes}
+use Rattle.calls.proofs.InPlaceLines.{measure-ready}
+use Rattle.calls.proofs.MeasureLines.{measure-passes}
 use Rattle.buffers.proofs.Calling.{refused}
 use Rattle.operations.specs.Steps.{Operation, lines_of, measurement_of}
 use Rattle.operations.proofs.AcceptedSteps.{accepted-step, measure-arguments}

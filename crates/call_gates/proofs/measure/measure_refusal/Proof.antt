@@ -2,8 +2,8 @@
 -- arguments, and 14 where a determined outcome contradicts the supplied bit.
 use mathlib.Core.Path.{sym, ◌∙◌}
 use borrow.Author.Rules.{rules}
-use Rattle.operations.proofs.InPlaceLines.{measure-ready}
-use Rattle.operations.proofs.MeasureLines.{arguments-before, arguments-refuse, then-14, then-none}
+use Rattle.calls.proofs.InPlaceLines.{measure-ready}
+use Rattle.calls.proofs.MeasureLines.{arguments-before, arguments-refuse, then-14, then-none}
 use Rattle.operations.specs.Used.{UsedRecord, used_record}
 use Rattle.call_gates.proofs.measure.measure_refusal.Statement.{statement}
 use Rattle.call_gates.proofs.measure.measure_refusal.Tie as tie

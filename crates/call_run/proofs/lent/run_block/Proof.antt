@@ -24,9 +24,8 @@ use denote.Laws.{Is}
 use denote.Memory.{pointee}
 use denote.Plain.{uint_Makes, uint_Tells, uint_vals}
 use denote.RattleType.{owns}
-use denote.Ref.{ShrRef, shr_vals, shr_tells}
-use denote.Signature.{plain, shr_ref_to}
-use denote.Slice.{MutSlice, Room, mut_slice_Tells, shr_slice_vals, slice_ty, slice_val}
+use denote.Signature.{plain}
+use denote.Slice.{MutSlice, Room, mut_slice_Tells, mut_slice_vals, slice_ty, slice_val}
 use denote.Steps.{nothing, owned}
 use denote.Struct.Laws as LL
 use denote.Triple.Call.{calls_at}
@@ -39,12 +38,10 @@ use denote.Triple.Walked.{
   Walks,
   ends_at,
   gave_slice,
-  Goes-dropped,
   Goes-gave_slice,
   Goes-none,
   needs,
   says,
-  stay_dropped,
   stay_none,
   walk_Meets,
   walk_of,
@@ -65,13 +62,12 @@ use borrow.Rule.Array.Share.{Room-take}
 use Rattle.jobs.specs.contracts.Step as S
 use Rattle.jobs.proofs.Step.TheLaws as S'
 use Rattle.jobs.specs.declared.Step.{Step}
-use Rattle.clifford_impl.specs.internal.Composing.{Composes}
 use Rattle.call_run.proofs.Lending.{Lent, lent, ref, val}
 use Rattle.call_run.proofs.LentCall.{Asks, Done, Passed, R, Returned, RunLent, Sized, Vs, called, returned, to}
 use Rattle.call_run.proofs.LentCode.{word}
 use Rattle.call_run.proofs.Locals.{Places, at, behind, block, enters, leaves, span}
 use Rattle.call_run.proofs.StepArray.{Cell, Rest, Slice, array, array-fits, first-in, first_out, first-steps}
-use Rattle.call_run.proofs.TurnCall.{Codes, Now, Table, TableLasting, Turning, left}
+use Rattle.call_run.proofs.TurnCall.{Now, Turning, left}
 use Rattle.call_run.specs.contracts.lent.run_block as run-block
 use Rattle.call_run.specs.contracts.lent.run_block.Key.{name as #run-block}
 use Rattle.call_run.proofs.lent.run_block.Code as code
@@ -101,13 +97,7 @@ stayed = (
           stay_none (λ _. Array R 64) yes,
           (
             stay_none (λ _. usize) yes,
-            (
-              stay_none (λ _. usize) yes,
-              (
-                gave_slice (2 ∷ []) tt (plain (λ _. u8)),
-                (stay_dropped (shr_ref_to (3 ∷ []) tt (plain (λ _. Codes))) yes, tt),
-              ),
-            ),
+            (stay_none (λ _. usize) yes, (gave_slice (2 ∷ []) tt (plain (λ _. u8)), tt)),
           ),
         ),
       ),
@@ -129,19 +119,16 @@ module _ {M : Type 1} {𝓤 : Ura M} (𝓛 : Logic 𝓤) (mem : Memory → SProp
   abbrev L₃ : Lent u8
   L₃ = T.answers
 
-  abbrev t : Table
-  t = T.table
-
   -- what `run_lent` is passed, with the first steps of the array in the block l
   abbrev passed : ℕ → ℕ × GName → Passed
   passed l g = record { turning = T; steps = first-steps xs count l g; used = used }
 
   -- the arguments, and their machine values
-  abbrev κs : Lfts 4
-  κs = (L₀.κ, (L₁.κ, (L₃.κ, (t.κ, tt))))
+  abbrev κs : Lfts 3
+  κs = (L₀.κ, (L₁.κ, (L₃.κ, tt)))
 
-  abbrev qs : Shares 4
-  qs = (L₀.q, (L₁.q, (L₃.q, (t.q, tt))))
+  abbrev qs : Shares 3
+  qs = (L₀.q, (L₁.q, (L₃.q, tt)))
 
   abbrev args : Args run-block.signature κs
   args = (
@@ -150,7 +137,7 @@ module _ {M : Type 1} {𝓤 : Ura M} (𝓛 : Logic 𝓤) (mem : Memory → SProp
       ref u64 L₀ L₀.γ L₀.first,
       (
         ref u8 L₁ L₁.γ L₁.first,
-        (used, (xs, (count, (T.place, (ref u8 L₃ L₃.γ L₃.first, (t.at, tt)))))),
+        (used, (xs, (count, (T.place, (ref u8 L₃ L₃.γ L₃.first, tt))))),
       ),
     ),
   )
@@ -166,7 +153,7 @@ module _ {M : Type 1} {𝓤 : Ura M} (𝓛 : Logic 𝓤) (mem : Memory → SProp
           vint w64 used ∷ [],
           (
             array xs count ∷ [],
-            (vint w64 count ∷ [], (vint w64 T.place ∷ [], (val u8 L₃ ∷ [], (shr_vals t.at, tt)))),
+            (vint w64 count ∷ [], (vint w64 T.place ∷ [], (val u8 L₃ ∷ [], tt))),
           ),
         ),
       ),
@@ -176,7 +163,7 @@ module _ {M : Type 1} {𝓤 : Ura M} (𝓛 : Logic 𝓤) (mem : Memory → SProp
   abbrev values : List Val
   values =
       vint w64 T.n ∷ val u64 L₀ ∷ val u8 L₁ ∷ vint w64 used ∷ array xs count ∷ vint w64 count ∷ vint w64 T.place ∷
-      val u8 L₃ ∷ vptr t.at.ptr.0 t.at.ptr.1 ∷ []
+      val u8 L₃ ∷ []
 
   abbrev Post : Val → SProp 𝓤
   Post = (walk_of 𝓛 run-block.ended stayed (run-block.clauses 𝓛 mem run)).post ((κs, qs, tt, args, at_entry), tt)
@@ -187,20 +174,17 @@ module _ {M : Type 1} {𝓤 : Ura M} (𝓛 : Logic 𝓤) (mem : Memory → SProp
         (Post (vint w64 y.used))
     exits v y B =
         qed 𝓛 (‵ (Done (passed l g) y) ∷ []) ∵ fsplit ! $ move ! (1 ∷ []) $ fsplit ! $ move ! (1 ∷ []) $ fsplit ! $ move
-        ! (1 ∷ []) $ fsplit ! $ move ! (1 ∷ []) $ fsplit ! $ move ! (1 ∷ []) $ fsplit ! $
-        move ! (6 ∷ 5 ∷ 4 ∷ 3 ∷ 2 ∷ 0 ∷ 1 ∷ []) $
+        ! (1 ∷ []) $ fsplit ! $ move ! (1 ∷ []) $ fsplit ! $
+        move ! (5 ∷ 4 ∷ 3 ∷ 2 ∷ 0 ∷ 1 ∷ []) $
         suffices ! _ (ends_at 𝓛 run-block.ended stayed (run-block.clauses 𝓛 mem run)
         ((κs, qs, tt, args, at_entry), tt) (vint w64 y.used) y.used
-        (tt, (y.neighbours, (y.codes, (tt, (tt, (tt, (tt, (y.answers, (tt, tt))))))))) (
-          tt,
-          (B.fits.neighbours-long, (B.fits.codes-long, (tt, (tt, (tt, (tt, (B.fits.answers-long, (tt, tt)))))))),
-        )) $
+        (tt, (y.neighbours, (y.codes, (tt, (tt, (tt, (tt, (y.answers, tt))))))))
+        (tt, (B.fits.neighbours-long, (B.fits.codes-long, (tt, (tt, (tt, (tt, (B.fits.answers-long, tt))))))))) $
         says ! B.ran $
-        nothing ! $ move ! (4 ∷ 0 ∷ []) $ join ! $ move ! (3 ∷ 0 ∷ []) $ join ! $ move ! (2 ∷ 0 ∷ []) $ join ! $ move !
-        (1 ∷ 0 ∷ []) $ join ! $ frame ! $
+        nothing ! $ move ! (3 ∷ 0 ∷ []) $ join ! $ move ! (2 ∷ 0 ∷ []) $ join ! $ move ! (1 ∷ 0 ∷ []) $ join ! $ frame !
+        $
         -- [the last lists]
-        nothing ! $ nothing ! $ fjoin ! $ move ! (3 ∷ 0 ∷ []) $ fjoin ! $ owned ! usize (Is usize)
-        (uint_Makes 𝓛 w64) T.place _
+        nothing ! $ move ! (3 ∷ 0 ∷ []) $ fjoin ! $ owned ! usize (Is usize) (uint_Makes 𝓛 w64) T.place _
         (refl, G.place) $ fjoin ! $
         owned ! usize (Is usize) (uint_Makes 𝓛 w64) count _ (refl, gc) $ fjoin ! $
         owned ! (Array R 64) (Is (Array R 64)) (Array-Makes 𝓛 R (LL.makes S.the_type S'.the_plain 𝓛) 64) xs _
@@ -216,8 +200,7 @@ module _ {M : Type 1} {𝓤 : Ura M} (𝓛 : Logic 𝓤) (mem : Memory → SProp
       (g₁ : Room u8 (length L₁.first)) (g₃ : Room u8 (length L₃.first))
       (gn : T.n < 2 ^ 64) (gu : used < 2 ^ 64) (gc : count < 2 ^ 64) (gp : T.place < 2 ^ 64)
       (asks : (count ≤ 64) × ((T.place + count ≤ length L₃.first) × ReadyAt T.place L₃.first
-      (left T.n (record { neighbours = L₀.first; codes = L₁.first; used = used; answers = L₃.first })))
-      × Composes t.at.now) where
+      (left T.n (record { neighbours = L₀.first; codes = L₁.first; used = used; answers = L₃.first })))) where
     taken : length (take count xs) ≡ count
     taken = length-take-le count xs (omega (arith, long, asks.0))
 
@@ -234,27 +217,22 @@ module _ {M : Type 1} {𝓤 : Ura M} (𝓛 : Logic 𝓤) (mem : Memory → SProp
         }
 
     asked : (l : ℕ) (g : ℕ × GName) → Asks (passed l g)
-    asked l g = (subst (λ (k : ℕ). T.place + k ≤ length L₃.first) (sym taken) asks.1.0, asks.1.1, asks.2)
+    asked l g = (subst (λ (k : ℕ). T.place + k ≤ length L₃.first) (sym taken) asks.1.0, asks.1.1)
 
     -- where the array lies
     abbrev lent_at : Places (code.function).locals → ℕ
-    lent_at p = block (code.function).locals p 10
+    lent_at p = block (code.function).locals p 9
 
     walk : ent 𝓤 (on_entry 𝓛 run-block.signature κs qs args at_entry) (WpFn 𝓤 H C Λ code.function values Post)
     walk =
-        qed 𝓛 ((‵ (flft L₀.κ L₀.q) ⊛ (‵ (flft L₁.κ L₁.q) ⊛ (‵ (flft L₃.κ L₃.q) ⊛ (‵
-        (TableLasting t) ⊛ ‵ ftrue))))
+        qed 𝓛 ((‵ (flft L₀.κ L₀.q) ⊛ (‵ (flft L₁.κ L₁.q) ⊛ (‵ (flft L₃.κ L₃.q) ⊛ ‵ ftrue)))
         ∷ ‵ (owns (u64 ∷ MutSlice (named 0) L₀.κ u64 ∷ MutSlice (named 1) L₁.κ u8 ∷ u64 ∷ Array R 64 ∷ usize ∷
-        usize ∷ MutSlice (named 2) L₃.κ u8 ∷ ShrRef (named 3) t.κ Codes ∷ []) args at_entry) ∷ []) ∵
-        split ! $ move ! (1 ∷ []) $ split ! $ move ! (1 ∷ []) $ split ! $ move ! (1 ∷ []) $ split ! $ move ! (5 ∷ [])
-        $ fsplit
-        ! $ dropᴷ ! $ fsplit
+        usize ∷ MutSlice (named 2) L₃.κ u8 ∷ []) args at_entry) ∷ []) ∵
+        split ! $ move ! (1 ∷ []) $ split ! $ move ! (1 ∷ []) $ split ! $ move ! (4 ∷ []) $ fsplit ! $ dropᴷ ! $ fsplit
         ! $ move ! (1 ∷ []) $ fsplit ! $ move ! (1 ∷ []) $
-        fsplit ! $ dropᴷ ! $ fsplit ! $ dropᴷ ! $ fsplit ! $ dropᴷ ! $ fsplit ! $ dropᴷ ! $ fsplit ! $ move ! (1 ∷ []) $
-        fsplit ! $
-        -- [the table; -; the answers; the codes; the neighbours; the token of the table; -; of the answers; of the
-        -- codes; of the neighbours]
-        keep ! (9 ∷ 8 ∷ 7 ∷ 5 ∷ 4 ∷ 3 ∷ 2 ∷ 0 ∷ []) $
+        fsplit ! $ dropᴷ ! $ fsplit ! $ dropᴷ ! $ fsplit ! $ dropᴷ ! $ fsplit ! $ dropᴷ ! $ fsplit ! $
+        -- [the answers; -; the codes; the neighbours; the token of the answers; -; of the codes; of the neighbours]
+        keep ! (7 ∷ 6 ∷ 4 ∷ 3 ∷ 2 ∷ 0 ∷ []) $
         enters 𝓛 C Λ code.function values _ (
           (tt, record { fits = gn }),
           (
@@ -269,7 +247,7 @@ module _ {M : Type 1} {𝓤 : Ura M} (𝓛 : Logic 𝓤) (mem : Memory → SProp
                     (tt, record { fits = gc }),
                     (
                       (tt, record { fits = gp }),
-                      ((tt, (tt, (record { fits = g₃.0 }, tt))), ((tt, tt), tt)),
+                      ((tt, (tt, (record { fits = g₃.0 }, tt))), tt),
                     ),
                   ),
                 ),
@@ -277,47 +255,46 @@ module _ {M : Type 1} {𝓤 : Ura M} (𝓛 : Logic 𝓤) (mem : Memory → SProp
             ),
           ),
         ) (λ p.
-        -- [the locals, number j at j; ..; the four tokens; the three slices; the table]
+        -- [the locals, number j at j; ..; the three tokens; the three slices]
         assigns ! (of_opd ! (load ! (from ! (stop !)) (look ! 5 refl))) (from ! (stop !))
-        (init ! 10 refl (array-fits xs count 64 roomy 𝓛 is)) $
+        (init ! 9 refl (array-fits xs count 64 roomy 𝓛 is)) $
         assigns ! (addr ! (from ! (fld ! refl (hop ! (look_in ! 2 (sub ! 0 refl (whole !))) (stop !)))))
-        (from ! (stop !)) (init ! 11 refl (tt, tt)) $
-        assigns ! (agg ! (and_then ! (load ! (from ! (stop !)) (look ! 11 refl))
+        (from ! (stop !)) (init ! 10 refl (tt, tt)) $
+        assigns ! (agg ! (and_then ! (load ! (from ! (stop !)) (look ! 10 refl))
         (and_then ! (load ! (from ! (fld ! refl (stop !))) (look_in ! 2 (sub ! 1 refl (whole !)))) (no_more !))))
-        (from ! (stop !)) (init ! 12 refl (tt, (tt, (record { fits = g₀.0 }, tt)))) $
+        (from ! (stop !)) (init ! 11 refl (tt, (tt, (record { fits = g₀.0 }, tt)))) $
         assigns ! (addr ! (from ! (fld ! refl (hop ! (look_in ! 3 (sub ! 0 refl (whole !))) (stop !)))))
-        (from ! (stop !)) (init ! 13 refl (tt, tt)) $
-        assigns ! (agg ! (and_then ! (load ! (from ! (stop !)) (look ! 13 refl))
+        (from ! (stop !)) (init ! 12 refl (tt, tt)) $
+        assigns ! (agg ! (and_then ! (load ! (from ! (stop !)) (look ! 12 refl))
         (and_then ! (load ! (from ! (fld ! refl (stop !))) (look_in ! 3 (sub ! 1 refl (whole !)))) (no_more !))))
-        (from ! (stop !)) (init ! 14 refl (tt, (tt, (record { fits = g₁.0 }, tt)))) $
-        assigns ! (addr ! (from ! (stop !))) (from ! (stop !)) (init ! 15 refl (tt, tt)) $
-        assigns ! (agg ! (and_then ! (load ! (from ! (stop !)) (look ! 15 refl))
+        (from ! (stop !)) (init ! 13 refl (tt, (tt, (record { fits = g₁.0 }, tt)))) $
+        assigns ! (addr ! (from ! (stop !))) (from ! (stop !)) (init ! 14 refl (tt, tt)) $
+        assigns ! (agg ! (and_then ! (load ! (from ! (stop !)) (look ! 14 refl))
         (and_then ! (load ! (from ! (stop !)) (look ! 6 refl)) (no_more !)))) (from ! (stop !))
-        (init ! 16 refl (tt, (tt, (record { fits = gc }, tt)))) $
-        rewrite ! 16 (λ (k : ℕ). ‵ (fat full_share slice_s (block (code.function).locals p 16) 0
+        (init ! 15 refl (tt, (tt, (record { fits = gc }, tt)))) $
+        rewrite ! 15 (λ (k : ℕ). ‵ (fat full_share slice_s (block (code.function).locals p 15) 0
         (slice_val ((lent_at p), 0) k))) (sym taken) refl $
         assigns ! (addr ! (from ! (fld ! refl (hop ! (look_in ! 8 (sub ! 0 refl (whole !))) (stop !)))))
-        (from ! (stop !)) (init ! 17 refl (tt, tt)) $
-        assigns ! (agg ! (and_then ! (load ! (from ! (stop !)) (look ! 17 refl))
+        (from ! (stop !)) (init ! 16 refl (tt, tt)) $
+        assigns ! (agg ! (and_then ! (load ! (from ! (stop !)) (look ! 16 refl))
         (and_then ! (load ! (from ! (fld ! refl (stop !))) (look_in ! 8 (sub ! 1 refl (whole !)))) (no_more !))))
-        (from ! (stop !)) (init ! 18 refl (tt, (tt, (record { fits = g₃.0 }, tt)))) $
+        (from ! (stop !)) (init ! 17 refl (tt, (tt, (record { fits = g₃.0 }, tt)))) $
         -- the first steps of the local array are lent, and `run_lent` is called
-        move ! (10 ∷ []) $
+        move ! (9 ∷ []) $
         use1 𝓛 (later (some (λ (g : ℕ × GName). ‵ (flft (g.0 ∷ []) full_share) ⊛ ‵
         (Slice xs count 64 roomy 𝓛 (lent_at p) g) ⊛ ‵ (Rest xs count 64 roomy 𝓛 (lent_at p) g))))
         (first_out xs count 64 roomy 𝓛 is long (lent_at p)) $ await ! tt $ pick !
-        (λ g. split3 ! $ move ! (22 ∷ 23 ∷ 0 ∷ 24 ∷ 25 ∷ 26 ∷ 27 ∷ 1 ∷ 28 ∷ 29 ∷ []) $ group ! 10 $
+        (λ g. split3 ! $ move ! (21 ∷ 22 ∷ 0 ∷ 23 ∷ 24 ∷ 25 ∷ 1 ∷ 26 ∷ []) $ group ! 8 $
         use1 𝓛 (raw ((RunLent 𝓛 mem run).pre (to (passed (lent_at p) g) 𝓛 mem run)))
         (called (passed (lent_at p) g) 𝓛 mem run (sized (lent_at p) g) (asked (lent_at p) g)) $
         calls_at ! fm (RunLent 𝓛 mem run) knows (to (passed (lent_at p) g) 𝓛 mem run)
         (and_then ! (load ! (from ! (stop !)) (look ! 3 refl))
-        (and_then ! (load ! (from ! (stop !)) (look ! 13 refl))
-        (and_then ! (load ! (from ! (stop !)) (look ! 15 refl))
+        (and_then ! (load ! (from ! (stop !)) (look ! 12 refl))
+        (and_then ! (load ! (from ! (stop !)) (look ! 14 refl))
         (and_then ! (load ! (from ! (stop !)) (look ! 6 refl))
-        (and_then ! (load ! (from ! (stop !)) (look ! 17 refl))
+        (and_then ! (load ! (from ! (stop !)) (look ! 16 refl))
         (and_then ! (load ! (from ! (stop !)) (look ! 9 refl))
-        (and_then ! (load ! (from ! (stop !)) (look ! 19 refl))
-        (and_then ! (load ! (from ! (stop !)) (look ! 11 refl)) (no_more !))))))))) (λ v.
+        (and_then ! (load ! (from ! (stop !)) (look ! 18 refl)) (no_more !)))))))) (λ v.
         use1 𝓛 (later (some (λ (y : Now). given (Returned (passed (lent_at p) g) v y)
         (‵ (flft (g.0 ∷ []) full_share) ⊛ ‵ (Done (passed (lent_at p) g) y)))))
         (returned (passed (lent_at p) g) 𝓛 mem run v) $ await ! tt $ pick !
@@ -327,8 +304,7 @@ module _ {M : Type 1} {𝓤 : Ura M} (𝓛 : Logic 𝓤) (mem : Memory → SProp
         -- [the array; what is left for the exit; the locals but the array; ..]
         land ! (from ! (stop !)) (init ! 2 refl (subst (λ (r : Val). Holds (has_ty word r) × WT r) (sym B.is)
         (tt, record { fits = B.fits.fits }))) $
-        rewrite ! 2 (λ (r : Val). ‵ (fat full_share word p.0 0 r)) B.is refl $ move !
-        (span 2 10 ++ (0 ∷ span 12 9))
+        rewrite ! 2 (λ (r : Val). ‵ (fat full_share word p.0 0 r)) B.is refl $ move ! (span 2 9 ++ (0 ∷ span 11 9))
         $
         leaves 𝓛 C Λ word p.0 (at 𝓛 (behind (code.function).locals) p.1) (vint w64 y.used)
         (map holding (values ++ (array xs count ∷ vptr L₀.b L₀.o ∷ val u64 L₀ ∷ vptr L₁.b L₁.o ∷ val u8 L₁ ∷
@@ -347,12 +323,12 @@ module _ {M : Type 1} {𝓤 : Ura M} (𝓛 : Logic 𝓤) (mem : Memory → SProp
       (λ κs. (
         uint_vals w64,
         (
-          shr_slice_vals,
+          mut_slice_vals,
           (
-            shr_slice_vals,
+            mut_slice_vals,
             (
               uint_vals w64,
-              (array_vals Vs, (uint_vals w64, (uint_vals w64, (shr_slice_vals, (shr_vals, tt))))),
+              (array_vals Vs, (uint_vals w64, (uint_vals w64, (mut_slice_vals, tt)))),
             ),
           ),
         ),
@@ -367,16 +343,7 @@ module _ {M : Type 1} {𝓤 : Ura M} (𝓛 : Logic 𝓤) (mem : Memory → SProp
               uint_Tells w64,
               (
                 Array-Tells R Vs (LL.tells S.the_type S'.the_laws) 64,
-                (
-                  uint_Tells w64,
-                  (
-                    uint_Tells w64,
-                    (
-                      mut_slice_Tells (named 2) κs.1.1.0 u8,
-                      (shr_tells (named 3) κs.1.1.1.0 Codes, tt),
-                    ),
-                  ),
-                ),
+                (uint_Tells w64, (uint_Tells w64, (mut_slice_Tells (named 2) κs.1.1.0 u8, tt))),
               ),
             ),
           ),
@@ -389,7 +356,6 @@ module _ {M : Type 1} {𝓤 : Ura M} (𝓛 : Logic 𝓤) (mem : Memory → SProp
         neighbours = lent u64 κs.0 qs.0 a.1.0;
         codes = lent u8 κs.1.0 qs.1.0 a.1.1.0;
         answers = lent u8 κs.1.1.0 qs.1.1.0 a.1.1.1.1.1.1.1.0;
-        table = record { κ = κs.1.1.1.0; q = qs.1.1.1.0; at = a.1.1.1.1.1.1.1.1.0 };
       }) a.1.1.1.0 a.1.1.1.1.0 a.1.1.1.1.1.0
       C Λ fm knows are.1.1.1.1.0 are.1.1.1.1.0.1.0.1 are.1.0.0.1 are.1.1.0.0.1
       are.1.1.1.1.1.1.1.0.0.1
@@ -399,26 +365,20 @@ run-block-meets : {M : Type 1} {𝓤 : Ura M} (𝓛 : Logic 𝓤) (mem : Memory 
     (run : Routine → Fun 𝓤) (𝓣 : Tables 𝓤 𝓛.H) → Triple 𝓤 (𝓣.C #run-lent) (RunLent 𝓛 mem run)
     → Meets 𝓛 run-block.signature (WpFn 𝓤 𝓛.H 𝓣.C 𝓣.Λ code.function) (run-block.spec 𝓛 mem run)
 run-block-meets {𝓤 = 𝓤} 𝓛 mem run 𝓣 knows = walk_Meets 𝓛 run-block.ended stayed (
-  Goes-none 𝓛 4 (λ _. u64) yes (λ κs x f. refl),
+  Goes-none 𝓛 3 (λ _. u64) yes (λ κs x f. refl),
   (
-    Goes-gave_slice 𝓛 4 0 tt (plain (λ _. u64)),
+    Goes-gave_slice 𝓛 3 0 tt (plain (λ _. u64)),
     (
-      Goes-gave_slice 𝓛 4 1 tt (plain (λ _. u8)),
+      Goes-gave_slice 𝓛 3 1 tt (plain (λ _. u8)),
       (
-        Goes-none 𝓛 4 (λ _. u64) yes (λ κs x f. refl),
+        Goes-none 𝓛 3 (λ _. u64) yes (λ κs x f. refl),
         (
-          Goes-none 𝓛 4 (λ _. Array R 64) yes (λ κs x f. refl),
+          Goes-none 𝓛 3 (λ _. Array R 64) yes (λ κs x f. refl),
           (
-            Goes-none 𝓛 4 (λ _. usize) yes (λ κs x f. refl),
+            Goes-none 𝓛 3 (λ _. usize) yes (λ κs x f. refl),
             (
-              Goes-none 𝓛 4 (λ _. usize) yes (λ κs x f. refl),
-              (
-                Goes-gave_slice 𝓛 4 2 tt (plain (λ _. u8)),
-                (
-                  Goes-dropped 𝓛 4 (shr_ref_to (3 ∷ []) tt (plain (λ _. Codes))) yes (λ κs x f. refl),
-                  tt,
-                ),
-              ),
+              Goes-none 𝓛 3 (λ _. usize) yes (λ κs x f. refl),
+              (Goes-gave_slice 𝓛 3 2 tt (plain (λ _. u8)), tt),
             ),
           ),
         ),

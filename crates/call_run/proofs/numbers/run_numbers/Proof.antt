@@ -14,14 +14,14 @@ use Rattle.call_run.proofs.numbers.run_numbers.Statement.{statement}
 use Rattle.call_run.proofs.numbers.run_numbers.Tie as tie
 
 abbrev invariant-loop : tie.invariant-loop
-invariant-loop n nb₀ cs₀ used count ops a b value ans₀ table word₀ k₀ nb cs ans word k =
+invariant-loop n nb₀ cs₀ used count ops a b value ans₀ word₀ k₀ nb cs ans word k =
     RunTo (used_record n nb₀ cs₀ used) (steps_in ops a b value) count k
     ans₀ nb cs word ans
     × (length nb ≡ length nb₀) × (length cs ≡ length cs₀) × (length ans ≡ length ans₀)
     × ReadyAt k ans (used_record n nb cs word)
 
 abbrev decreases-loop : tie.decreases-loop
-decreases-loop n nb₀ cs₀ used count ops a b value ans₀ table word₀ k₀ nb cs ans word k = count - k
+decreases-loop n nb₀ cs₀ used count ops a b value ans₀ word₀ k₀ nb cs ans word k = count - k
 
 -- the record that is lent
 abbrev lent : tie.Start invariant-loop decreases-loop → UsedRecord
@@ -29,8 +29,8 @@ lent S =
     used_record S.args.n S.args.neighbours.now S.args.codes.now S.args.used
 
 -- before the loop
-abbrev begun : tie.After-composition-table invariant-loop decreases-loop → tie.Start invariant-loop decreases-loop
-begun c = c.before.before.before.before.before.before.before.before
+abbrev begun : tie.After-slice-known3 invariant-loop decreases-loop → tie.Start invariant-loop decreases-loop
+begun c = c.before.before.before.before.before.before.before
 
 loop-holds : tie.Need-loop-init invariant-loop decreases-loop
 loop-holds c = (run_none (lent (begun c)) _ _ _, refl, refl, refl, first-ready _ (lent (begun c)) (begun c).requires.3)
@@ -44,26 +44,23 @@ block-at-requires c κs =
 
 run-block-requires : tie.Need-run-block-requires invariant-loop decreases-loop
 run-block-requires c κs =
-    let L = c.before.before.before.before.before in
+    let L = c.before.before.before.before in
     let I = L.before in
     let A = I.before in
     let S = begun A.before in
-    let m = L.block-length.ensures in (
-      m.2,
-      (omega (arith, m.1, I.loop-test.true, A.loop.invariant.3, S.pre.1), A.loop.invariant.4),
-      A.before.composition-table.ensures,
-    )
+    let m = L.block-length.ensures in
+    (m.2, (omega (arith, m.1, I.loop-test.true, A.loop.invariant.3, S.pre.1), A.loop.invariant.4))
 
 loop-less : tie.Need-loop-smaller invariant-loop decreases-loop
 loop-less c =
     let R = c.before.before.before.before.before.before in
-    let L = R.before.before.before.before.before.before in
+    let L = R.before.before.before.before.before in
     omega (arith, L.block-length.ensures.0, L.before.loop-test.true)
 
 loop-again : tie.Need-loop-preserved invariant-loop decreases-loop
 loop-again c =
     let R = c.before.before.before.before.before.before in
-    let B = R.before.before.before.before.before in
+    let B = R.before.before.before.before in
     let L = B.before in
     let I = L.before in
     let A = I.before in
@@ -88,14 +85,14 @@ settle-last-requires : tie.Need-settle-last-requires invariant-loop decreases-lo
 settle-last-requires c κs =
     let T = c.before.before.before in
     let l = T.before.loop in
-    let S = c.before.before.before.before.before.before.before.before.before.before.before.before.before in
+    let S = c.before.before.before.before.before.before.before.before.before.before.before.before in
     (omega (arith, l.invariant.3, S.requires.1), at-end _ _ _ _ l.invariant.0.bound T.loop-test.false l.invariant.4)
 
 returns : tie.Need-returns invariant-loop decreases-loop
 returns c =
     let T = c.before.before.before.before.before.before.before.before in
     let l = T.before.loop in
-    let S = c.before.before.before.before.before.before.before.before.before.before.before.before.before.before.before.before.before.before in
+    let S = c.before.before.before.before.before.before.before.before.before.before.before.before.before.before.before.before.before in
     let a = S.args in
     run-all (lent S) (steps_in a.ops.now a.a.now a.b.now a.value.now) a.count a.answers.now
     l.k l.neighbours l.codes l.word l.answers T.loop-test.false
@@ -105,7 +102,7 @@ returns c =
 pub run-numbers-spec : {M : Type 1} → statement M
 run-numbers-spec =
     tie.close
-    (tie.spec invariant-loop decreases-loop (λ c κs. search rules) loop-holds (λ c. search rules) (λ c κs. search rules)
+    (tie.spec invariant-loop decreases-loop loop-holds (λ c. search rules) (λ c κs. search rules)
     block-at-requires run-block-requires (λ c. search rules) loop-less loop-again settle-last-requires
     (λ c. search rules)
     (λ c. search rules) (λ c. search rules) returns)

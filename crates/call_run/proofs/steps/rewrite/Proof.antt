@@ -17,7 +17,7 @@ enum_told c = search rules
 cast-gate-waiting : tie.Need-overflow-cast-gate-waiting
 cast-gate-waiting c = omega (
   arith,
-  c.before.before.before.before.before.before.requires.0.0.code
+  c.before.before.before.before.before.before.requires.0.code
       c.before.before.enum_told.given.1,
 )
 
@@ -104,13 +104,13 @@ returns-4 c =
     c.before.before.before.before.pivot-waiting.ensures
 
 returns-5 : tie.Need-returns-5
-returns-5 c = absurd (c.before.before.before.before.requires.0.0.no-measure c.enum-told5.given.1)
+returns-5 c = absurd (c.before.before.before.before.requires.0.no-measure c.enum-told5.given.1)
 
 returns-6 : tie.Need-returns-6
-returns-6 c = absurd (c.before.before.before.before.requires.0.0.no-observe c.enum-told6.given.1)
+returns-6 c = absurd (c.before.before.before.before.requires.0.no-observe c.enum-told6.given.1)
 
 returns-7 : tie.Need-returns-7
-returns-7 c = absurd (c.before.before.before.before.requires.0.0.no-renew c.enum-told7.given.1)
+returns-7 c = absurd (c.before.before.before.before.requires.0.no-renew c.enum-told7.given.1)
 
 pub rewrite-spec : {M : Type 1} → statement M
 rewrite-spec =

@@ -28,7 +28,7 @@ wrong-value-requires c κs = search rules
 returns : tie.Need-returns
 returns c =
     let S = c.before.before.before.before.before.before in
-    wrong-waited S.args.waiting (lent S) S.requires.0 S.args.s
+    wrong-waited S.args.waiting (lent S) S.requires S.args.s
     (wrong-by (lent S) S.args.s c.before.before.unused-set.ensures c.before.wrong-value.ensures
     c.if1.true)
 
@@ -52,7 +52,7 @@ measure-value-requires : tie.Need-measure-value-requires
 measure-value-requires c κs =
     let X = c.before.before.before.before.before in
     let S = begun X in
-    (value-small (lent S) S.args.s (right X) c.before.before.before.enum_told.given.1, S.pre.0)
+    (value-small (lent S) S.args.s (right X) c.before.before.before.enum_told.given.1, S.pre)
 
 same_length : tie.Need-same-length
 same_length c = search rules
@@ -64,7 +64,7 @@ returns-2 : tie.Need-returns-2
 returns-2 c =
     let X = c.before.before.before.before.before.before.before.before.before.before in
     let S = begun X in
-    measured-waited S.args.waiting (lent S) S.pre.0 S.args.s (right X)
+    measured-waited S.args.waiting (lent S) S.pre S.args.s (right X)
     c.before.before.before.before.before.before.before.before.enum_told.given.1 _ _ _ _
     c.before.before.before.before.measure-value.ensures
 
@@ -75,7 +75,7 @@ observe-value-requires : tie.Need-observe-value-requires
 observe-value-requires c κs =
     let X = c.before.before.before.before.before.before in
     let S = begun X in
-    (lot-small (lent S) S.args.s (right X) c.before.before.before.enum-told2.given.1, S.pre.0)
+    (lot-small (lent S) S.args.s (right X) c.before.before.before.enum-told2.given.1, S.pre)
 
 same-length-3 : tie.Need-same-length-3
 same-length-3 c = search rules
@@ -87,7 +87,7 @@ returns-3 : tie.Need-returns-3
 returns-3 c =
     let X = c.before.before.before.before.before.before.before.before.before.before.before in
     let S = begun X in
-    observed-waited S.args.waiting (lent S) S.pre.0 S.args.s (right X)
+    observed-waited S.args.waiting (lent S) S.pre S.args.s (right X)
     c.before.before.before.before.before.before.before.before.enum-told2.given.1 _ _ _ _
     c.before.before.before.before.observe-value.ensures
 
@@ -98,7 +98,7 @@ renew-value-requires : tie.Need-renew-value-requires
 renew-value-requires c κs =
     let X = c.before.before.before.before.before.before.before in
     let S = begun X in
-    (photon-small (lent S) S.args.s (right X) c.before.before.before.enum-told3.given.1, S.pre.0)
+    (photon-small (lent S) S.args.s (right X) c.before.before.before.enum-told3.given.1, S.pre)
 
 same-length-5 : tie.Need-same-length-5
 same-length-5 c = search rules
@@ -111,7 +111,7 @@ returns-4 c =
     let X = c.before.before.before.before.before.before.before.before.before.before.before.before in
     let S = begun X in
     let R = c.before.before.before.before.renew-value.ensures in
-    renewed-waited S.args.waiting (lent S) S.pre.0 S.args.s (right X)
+    renewed-waited S.args.waiting (lent S) S.pre S.args.s (right X)
     c.before.before.before.before.before.before.before.before.enum-told3.given.1 _ _ _ _
     R.0 R.1
 
@@ -122,12 +122,9 @@ rewrite-requires : tie.Need-rewrite-requires
 rewrite-requires c κs =
     let X = c.before.before.before.before.before.before in
     let S = begun X in (
-      (
-        rewriting (lent S) S.args.s (right X) c.before.before.before.before.before.match.keys2
-            c.before.before.before.before.match2.keys2 c.before.before.before.match3.keys2,
-        S.pre.1,
-      ),
-      S.pre.0,
+      rewriting (lent S) S.args.s (right X) c.before.before.before.before.before.match.keys2
+          c.before.before.before.before.match2.keys2 c.before.before.before.match3.keys2,
+      S.pre,
     )
 
 same-length-7 : tie.Need-same-length-7
@@ -140,7 +137,7 @@ returns-5 : tie.Need-returns-5
 returns-5 c =
     let X = c.before.before.before.before.before.before.before.before.before.before.before in
     let S = begun X in
-    plain-waited S.args.waiting (lent S) S.pre.0 S.args.s (right X) _ _ _
+    plain-waited S.args.waiting (lent S) S.pre S.args.s (right X) _ _ _
     c.before.before.before.before.rewrite.ensures
 
 pub run-step-spec : {M : Type 1} → statement M

@@ -23,7 +23,7 @@ number : (E : tie.After-argument-number) → let S = E.before.before.before.befo
     E.argument-number.result ≡ first_fitting (used_lines_of (meant S.args.waiting (lent S)) (asked S))
 number E =
     let S = E.before.before.before.before in
-    numbered (meant S.args.waiting (lent S)) S.requires.0.checked (leb 24 S.args.code)
+    numbered (meant S.args.waiting (lent S)) S.requires.checked (leb 24 S.args.code)
     (leb S.args.n S.args.qubit)
     E.argument-number.ensures E.before.bit_at.ensures
 
@@ -36,16 +36,15 @@ argument-number-requires c κs = search rules
 returns : tie.Need-returns
 returns c =
     let S = c.before.before.before.before.before in
-    refused-step S.args.waiting (lent S) S.requires.0 (asked S) (number c.before) c.if1.true
+    refused-step S.args.waiting (lent S) S.requires (asked S) (number c.before) c.if1.true
 
 gate-unsettled-requires : tie.Need-gate-unsettled-requires
 gate-unsettled-requires c κs =
     let D = c.before in
     let S = c.before.before.before.before.before.before in (
-      ready_held _ (lent S) S.requires.0,
-      let there = gate-place _ (lent S) S.requires.0 S.args.qubit S.args.code (number D.before) D.if1.false
-          in
-          (there.0, there.1, S.requires.1),
+      ready_held _ (lent S) S.requires,
+      gate-place _ (lent S) S.requires S.args.qubit S.args.code
+          (number D.before) D.if1.false,
     )
 
 same_length : tie.Need-same-length
@@ -55,7 +54,7 @@ returns-2 : tie.Need-returns-2
 returns-2 c =
     let D = c.before.before.before.before in
     let S = c.before.before.before.before.before.before.before.before.before in
-    gate-stepped _ (lent S) S.requires.0 S.args.qubit S.args.code (number D.before) D.if1.false _
+    gate-stepped _ (lent S) S.requires S.args.qubit S.args.code (number D.before) D.if1.false _
     c.before.before.gate-unsettled.ensures
 
 pub gate-waiting-spec : {M : Type 1} → statement M

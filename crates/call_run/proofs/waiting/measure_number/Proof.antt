@@ -5,7 +5,7 @@ use lib.Dec.{eqb, leb}
 use Rattle.buffers.specs.Refusals.{first_fitting}
 use Rattle.call_run.specs.internal.Waiting.{meant}
 use Rattle.operations.specs.Used.{used_arguments_of, UsedRecord, used_record}
-use Rattle.operations.proofs.MeasureLines.{arguments-refuse}
+use Rattle.calls.proofs.MeasureLines.{arguments-refuse}
 use Rattle.operations.specs.Steps.{measurement_of}
 use Rattle.call_run.proofs.WaitingLaws.{asks-before, found-14, found_none, numbered}
 use borrow.Author.Rules.{rules}

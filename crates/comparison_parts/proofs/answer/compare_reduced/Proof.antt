@@ -36,6 +36,7 @@ too-large-requires c κs =
       ),
     )
 
+-- src/lib.rt:89:9
 returns : tie.Need-returns
 returns c =
     let S = c.before.before.before.before.before.before.before.before in
@@ -46,6 +47,7 @@ returns c =
     S.requires.1.0.neighbours-length c.before.too_large.ensures c.if1.true) R R₂ H H₂ a.choice.now
     a.list.now a.count.now
 
+-- src/lib.rt:91:9
 compare-parts-requires : tie.Need-compare-parts-requires
 compare-parts-requires c κs =
     let S = c.before.before.before.before.before.before.before.before in
@@ -55,6 +57,7 @@ compare-parts-requires c κs =
           a.codes2.now S.requires.0 S.requires.1.0,
     )
 
+-- src/lib.rt:93:9
 returns-2 : tie.Need-returns-2
 returns-2 c =
     let T = c.before.before in
@@ -69,11 +72,15 @@ returns-2 c =
     T.compare-parts.result.found T.compare-parts.result.choice T.compare-parts.ensures R R₂ H H₂
     a.choice.now a.list.now a.count.now (not-true _ c.if2.true)
 
+-- src/lib.rt:96:5
+-- src/lib.rt:98:70
+-- src/lib.rt:98:70
 slice-aggregate-induced-image : tie.Need-slice-aggregate-induced-image
 slice-aggregate-induced-image c =
     let S = c.before.before.before.before.before.before.before.before.before.before.before.before.before.before.before.before.before.before in
     sym (part-long _ _ S.pre.0.upto refl)
 
+-- src/lib.rt:98:9
 induced-image-requires : tie.Need-induced-image-requires
 induced-image-requires c κs =
     let K = c.before.before.before.before in
@@ -100,6 +107,7 @@ induced-image-requires c κs =
       ),
     )
 
+-- src/lib.rt:100:5
 copy-list-requires : tie.Need-copy-list-requires
 copy-list-requires c κs =
     let J = c.before.before.before in
@@ -107,6 +115,9 @@ copy-list-requires c κs =
     let I = J.induced-image.ensures in
     (I.room, subst (λ k. J.induced-image.result.count ≤ k) (sym S.pre.1.1.1) I.room)
 
+-- src/lib.rt:70:1
+-- src/lib.rt:70:1
+-- src/lib.rt:70:1
 returns-3 : tie.Need-returns-3
 returns-3 c =
     let M = c.before.before in

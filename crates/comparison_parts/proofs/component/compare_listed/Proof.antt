@@ -9,6 +9,7 @@ use borrow.Author.Rules.{rules}
 use Rattle.comparison_parts.proofs.component.compare_listed.Statement.{statement}
 use Rattle.comparison_parts.proofs.component.compare_listed.Tie as tie
 
+-- src/lib.rt:47:5
 extract-requires : tie.Need-extract-requires
 extract-requires c κs =
     let S = c.before.before.before.before.before.before.before.before.before.before in
@@ -22,6 +23,7 @@ extract-requires c κs =
       ),
     )
 
+-- src/lib.rt:48:5
 extract-requires-2 : tie.Need-extract-requires-2
 extract-requires-2 c κs =
     let S = c.before.before.before.before.before.before.before.before.before.before.before.before.before.before.before.before.before in
@@ -35,6 +37,7 @@ extract-requires-2 c κs =
       ),
     )
 
+-- src/lib.rt:49:5
 search-records-requires : tie.Need-search-records-requires
 search-records-requires c κs =
     let E = c.before.before.before.before.before.before.before.before.before in
@@ -61,6 +64,11 @@ search-records-requires c κs =
       ),
     )
 
+-- src/lib.rt:27:1
+-- src/lib.rt:27:1
+-- src/lib.rt:27:1
+-- src/lib.rt:27:1
+-- src/lib.rt:27:1
 returns : tie.Need-returns
 returns c =
     let E = c.before.before.before.before.before.before.before.before.before.before in

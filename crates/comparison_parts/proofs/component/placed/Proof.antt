@@ -12,18 +12,26 @@ invariant-loop k at chosen whole₀ i₀ whole i = (i ≤ k) × Placing at chose
 abbrev decreases-loop : tie.decreases-loop
 decreases-loop k at chosen whole₀ i₀ whole i = k - i
 
+-- src/lib.rt:61:5
 loop-holds : tie.Need-loop-init invariant-loop decreases-loop
 loop-holds c =
     (zero-le, placing-start c.args.t1 c.args.t3 c.args.choice c.well-formed.1.1.1.0.1.0.1)
 
+-- src/lib.rt:62:17
+-- src/lib.rt:62:17
+-- src/lib.rt:63:20
+-- src/lib.rt:63:9
 array-write-whole : tie.Need-array-write-whole invariant-loop decreases-loop
 array-write-whole c =
     c.before.before.requires.1 c.before.loop.i c.loop-test.true
 
+-- src/lib.rt:64:9
+-- src/lib.rt:61:5
 loop-less : tie.Need-loop-smaller invariant-loop decreases-loop
 loop-less c =
     omega arith
 
+-- src/lib.rt:61:5
 loop-again : tie.Need-loop-preserved invariant-loop decreases-loop
 loop-again c =
     let S = c.before.before in (
@@ -32,6 +40,7 @@ loop-again c =
           c.before.loop.i S.requires.2 S.requires.1 c.loop-test.true c.before.loop.invariant.1,
     )
 
+-- src/lib.rt:53:1
 returns : tie.Need-returns invariant-loop decreases-loop
 returns c =
     let S = c.before.before in

@@ -12,12 +12,20 @@ invariant-loop w k at bits₀ i₀ bits i = (i ≤ k) × Compressed at w bits i
 abbrev decreases-loop : tie.decreases-loop
 decreases-loop w k at bits₀ i₀ bits i = k - i
 
+-- src/lib.rt:44:5
 loop-holds : tie.Need-loop-init invariant-loop decreases-loop
 loop-holds c = (zero-le, compressed-none c.args.t2 c.args.w)
 
+-- src/lib.rt:45:17
+-- src/lib.rt:45:17
+-- src/lib.rt:46:36
 has-requires : tie.Need-has-requires invariant-loop decreases-loop
 has-requires c κs = c.before.before.requires.1 c.before.loop.i c.loop-test.true
 
+-- src/lib.rt:46:9
+-- src/lib.rt:47:9
+-- src/lib.rt:44:5
+-- src/lib.rt:44:5
 loop-again : tie.Need-loop-preserved invariant-loop decreases-loop
 loop-again c =
     let H = c.before in
@@ -27,6 +35,7 @@ loop-again c =
           L.loop.invariant.1 H.has.ensures c.flip-where.ensures,
     )
 
+-- src/lib.rt:38:1
 returns : tie.Need-returns invariant-loop decreases-loop
 returns c =
     let L = c.before in

@@ -17,32 +17,41 @@ invariant-loop neighbours codes words₀ numbers₀ at k i₀ words numbers i =
 abbrev decreases-loop : tie.decreases-loop
 decreases-loop neighbours codes words₀ numbers₀ at k i₀ words numbers i = k - i
 
+-- src/lib.rt:68:5
 loop-holds : tie.Need-loop-init invariant-loop decreases-loop
 loop-holds c =
     let S = c.before.before.before.before in
     (fill_start _ _ S.args.words.now refl, fill_start _ _ S.args.numbers.now S.requires.0.1)
 
+-- src/lib.rt:69:17
+-- src/lib.rt:69:17
+-- src/lib.rt:70:29
 mul-compress : tie.Need-overflow-mul-compress invariant-loop decreases-loop
 mul-compress c =
     let S = c.before.before.before.before.before.before in
     omega (arith, S.requires.1.0, S.requires.1.2 c.before.loop.i c.loop-test.true)
 
+-- src/lib.rt:70:29
 shared-slice-read-compress : tie.Need-shared-slice-read-compress invariant-loop decreases-loop
 shared-slice-read-compress c =
     let I = c.before in
     let S = I.before.before.before.before.before.before in
     S.requires.1.2 I.before.loop.i I.loop-test.true
 
+-- src/lib.rt:70:20
 compress-requires : tie.Need-compress-requires invariant-loop decreases-loop
 compress-requires c κs =
     let S = c.before.before.before.before.before.before.before in
     (S.requires.0.0, λ i l. omega (arith, S.requires.1.0, S.requires.1.2 i l))
 
+-- src/lib.rt:70:9
+-- src/lib.rt:70:9
 slice-write-words : tie.Need-slice-write-words invariant-loop decreases-loop
 slice-write-words c =
     let I = c.before.before in
     subst (λ m. I.before.loop.i < m) (sym I.before.loop.invariant.0.long) I.loop-test.true
 
+-- src/lib.rt:71:22
 shared-slice-read-numbers : tie.Need-shared-slice-read-numbers invariant-loop decreases-loop
 shared-slice-read-numbers c =
     let I = c.before.before.before in
@@ -50,16 +59,20 @@ shared-slice-read-numbers c =
     subst (λ m. get_or S.args.t3 I.before.loop.i 0 < m) (sym S.requires.1.1)
     (S.requires.1.2 I.before.loop.i I.loop-test.true)
 
+-- src/lib.rt:71:9
 slice-write-numbers : tie.Need-slice-write-numbers invariant-loop decreases-loop
 slice-write-numbers c =
     let I = c.before.before.before in
     subst (λ m. I.before.loop.i < m) (sym I.before.loop.invariant.1.long) I.loop-test.true
 
+-- src/lib.rt:72:9
+-- src/lib.rt:68:5
 loop-less : tie.Need-loop-smaller invariant-loop decreases-loop
 loop-less c =
     let I = c.before.before.before in
     omega (arith, I.loop-test.true)
 
+-- src/lib.rt:68:5
 loop-again : tie.Need-loop-preserved invariant-loop decreases-loop
 loop-again c =
     let I = c.before.before.before in
@@ -69,14 +82,17 @@ loop-again c =
       fill_step _ _ L.loop.numbers L.loop.i _ L.loop.invariant.1 I.loop-test.true refl,
     )
 
+-- src/lib.rt:53:1
 same_length : tie.Need-same-length invariant-loop decreases-loop
 same_length c = c.before.loop.invariant.0.long
 
+-- src/lib.rt:53:1
 same-length-2 : tie.Need-same-length-2 invariant-loop decreases-loop
 same-length-2 c =
     let S = c.before.before.before.before.before.before in
     c.before.loop.invariant.1.long ∙ sym S.requires.0.1
 
+-- src/lib.rt:53:1
 returns : tie.Need-returns invariant-loop decreases-loop
 returns c =
     let L = c.before in (

@@ -22,12 +22,17 @@ invariant-loop component at₀ k₀ rest₀ at k rest = Listing component at k r
 abbrev decreases-loop : tie.decreases-loop
 decreases-loop component at₀ k₀ rest₀ at k rest = rest
 
+-- src/lib.rt:28:5
 loop-holds : tie.Need-loop-init invariant-loop decreases-loop
 loop-holds c = listing_start c.args.component _ refl c.ranges.component.fits
 
+-- src/lib.rt:29:13
+-- src/lib.rt:30:9
+-- src/lib.rt:30:9
 cast-at : tie.Need-overflow-cast-at invariant-loop decreases-loop
 cast-at c = let few = c.smallest.ensures.1 in search rules
 
+-- src/lib.rt:30:9
 array-write-at : tie.Need-array-write-at invariant-loop decreases-loop
 array-write-at c =
     let M = c in
@@ -35,6 +40,7 @@ array-write-at c =
     room L.before.args.component L.loop.at L.loop.k L.loop.rest L.loop.invariant
     M.before.loop-test.true _ M.smallest.ensures.0
 
+-- src/lib.rt:31:9
 add-k : tie.Need-overflow-add-k invariant-loop decreases-loop
 add-k c =
     let L = c.before.before in
@@ -44,6 +50,7 @@ add-k c =
           c.before.loop-test.true _ c.smallest.ensures.0,
     )
 
+-- src/lib.rt:32:9
 flip-requires : tie.Need-flip-requires invariant-loop decreases-loop
 flip-requires c κs =
     let M = c in
@@ -51,6 +58,7 @@ flip-requires c κs =
     place-below L.before.args.component L.loop.at L.loop.k L.loop.rest L.loop.invariant
     M.before.loop-test.true _ M.smallest.ensures.0
 
+-- src/lib.rt:28:5
 loop-less : tie.Need-loop-smaller invariant-loop decreases-loop
 loop-less c =
     let M = c.before in
@@ -59,6 +67,7 @@ loop-less c =
     (flip-less L.loop.rest _ (place-taken L.before.args.component L.loop.at L.loop.k L.loop.rest
     L.loop.invariant M.before.loop-test.true _ M.smallest.ensures.0))
 
+-- src/lib.rt:28:5
 loop-again : tie.Need-loop-preserved invariant-loop decreases-loop
 loop-again c =
     let M = c.before in
@@ -67,6 +76,7 @@ loop-again c =
     (listing_step L.before.args.component L.loop.at L.loop.k L.loop.rest L.loop.invariant
     M.before.loop-test.true _ M.smallest.ensures.0)
 
+-- src/lib.rt:21:1
 returns : tie.Need-returns invariant-loop decreases-loop
 returns c =
     listing-end c.before.before.args.component _ _ _ c.before.loop.invariant c.loop-test.false

@@ -1,79 +1,57 @@
--- `part` meets its contract: the connected part of vertex q: its neighbours are reached, then those of a vertex reached
--- and not passed, until there is none.
-use mathlib.Core.Path.{ap}
-use Prim.Native.Nat.{◌-◌, ◌<◌, ◌^◌}
-use native.Mathlib.Omega.{arith}
-use lib.Bits.{bit_or}
-use lib.ListN.{get_or, length}
+-- `part` meets its contract: the connected part of vertex q: the vertex, its neighbours, theirs and so on, until none
+-- is new.
+use Prim.Native.Nat.{◌-◌, ◌^◌}
+use lib.ListN.{length}
 use Rattle.record.specs.NeighbourWords.{graph_in}
-use Rattle.words.proofs.BitLaws.{bit-or}
-use Rattle.comparison_parts.proofs.Spreading.{Growing, grow-less, grow-more, grow-start, grown, waits-below}
+use Rattle.comparison_parts.proofs.Spreading.{Growing, grow-less, grow-more, grow-start, grown}
 use borrow.Author.Rules.{rules}
 use Rattle.comparison_parts.proofs.sets.part.Statement.{statement}
 use Rattle.comparison_parts.proofs.sets.part.Tie as tie
 
 abbrev invariant-loop : tie.invariant-loop
-invariant-loop neighbours q reached₀ passed₀ reached passed =
-    Growing (length neighbours) (graph_in neighbours) q reached passed
+invariant-loop neighbours q reached₀ next₀ reached next =
+    Growing (length neighbours) (graph_in neighbours) q reached next
 
 abbrev decreases-loop : tie.decreases-loop
-decreases-loop neighbours q reached₀ passed₀ reached passed = 2 ^ length neighbours - passed
+decreases-loop neighbours q reached₀ next₀ reached next = 2 ^ length neighbours - reached
 
+-- src/lib.rt:37:9
+-- src/lib.rt:38:9
+-- src/lib.rt:39:5
 loop-holds : tie.Need-loop-init invariant-loop decreases-loop
 loop-holds c =
-    let S = c.before.before in
+    let S = c.before.before.before in
     let nb = S.args.neighbours.now in
-    grow-start (length nb) (graph_in nb) S.requires.1 S.args.q S.requires.0.1 _ c.single.ensures
+    grow-start (length nb) (graph_in nb) S.requires.1 S.args.q S.requires.0.1 _ _ c.before.single.ensures
+    c.spread.ensures
 
--- a vertex that waits lies in the buffer
-vertex-in-buffer : (Q : tie.After-smallest invariant-loop decreases-loop)
-    → Q.smallest.result < length Q.before.before.before.before.before.args.neighbours.now
-vertex-in-buffer Q =
-    let L = Q.before.before in
-    let S = L.before.before.before in
-    let nb = S.args.neighbours.now in
-    waits-below (length nb) (graph_in nb) S.requires.1 S.args.q S.requires.0.1 _ _ L.loop.invariant S.requires.0.0
-    Q.before.loop-test.true _ Q.smallest.ensures.0
-
-shared-slice-read-reached : tie.Need-shared-slice-read-reached invariant-loop decreases-loop
-shared-slice-read-reached c = vertex-in-buffer c.before
-
-single-requires-2 : tie.Need-single-requires-2 invariant-loop decreases-loop
-single-requires-2 c κs =
-    let S = c.before.before.before.before.before.before in
-    omega (arith, vertex-in-buffer c.before, S.requires.0.0)
-
+-- src/lib.rt:41:9
+-- src/lib.rt:39:5
 loop-less : tie.Need-loop-smaller invariant-loop decreases-loop
 loop-less c =
-    let Q = c.before.before in
-    let L = Q.before.before in
-    let S = L.before.before.before in
+    let S = c.before.before.before.before.before.before in
     let nb = S.args.neighbours.now in
-    grow-less (length nb) (graph_in nb) S.requires.1 S.args.q S.requires.0.1 _ _ L.loop.invariant S.requires.0.0
-    Q.before.loop-test.true _ Q.smallest.ensures.0 _ _
-    (bit-or L.loop.reached (get_or nb Q.smallest.result 0))
-    (ap (bit_or L.loop.passed) c.single2.ensures)
+    grow-less (length nb) (graph_in nb) S.requires.1 S.args.q S.requires.0.1 _ _ c.before.before.loop.invariant
+    c.before.loop-test.true
 
+-- src/lib.rt:39:5
 loop-again : tie.Need-loop-preserved invariant-loop decreases-loop
 loop-again c =
-    let Q = c.before.before in
-    let L = Q.before.before in
-    let S = L.before.before.before in
+    let S = c.before.before.before.before.before.before in
     let nb = S.args.neighbours.now in
-    grow-more (length nb) (graph_in nb) S.requires.1 S.args.q S.requires.0.1 _ _ L.loop.invariant S.requires.0.0
-    Q.before.loop-test.true _ Q.smallest.ensures.0 _ _
-    (bit-or L.loop.reached (get_or nb Q.smallest.result 0))
-    (ap (bit_or L.loop.passed) c.single2.ensures)
+    grow-more (length nb) (graph_in nb) S.requires.1 S.args.q S.requires.0.1 _ _ c.before.before.loop.invariant _
+    c.spread2.ensures
 
+-- src/lib.rt:32:1
 returns : tie.Need-returns invariant-loop decreases-loop
 returns c =
-    let L = c.before in
-    let S = L.before.before.before in
+    let S = c.before.before.before.before.before in
     let nb = S.args.neighbours.now in
-    grown (length nb) (graph_in nb) S.requires.1 S.args.q S.requires.0.1 _ _ L.loop.invariant c.loop-test.false
+    grown (length nb) (graph_in nb) S.requires.1 S.args.q S.requires.0.1 _ _ c.before.loop.invariant
+    c.loop-test.false
 
 pub part-spec : {M : Type 1} → statement M
 part-spec =
     tie.close
-    (tie.spec invariant-loop decreases-loop (λ c κs. search rules) loop-holds (λ c κs. search rules) (λ c. search rules)
-    shared-slice-read-reached single-requires-2 loop-less loop-again returns)
+    (tie.spec invariant-loop decreases-loop (λ c κs. search rules) (λ c κs. search rules) loop-holds (λ c κs. search rules) loop-less
+    loop-again returns)

@@ -15,9 +15,16 @@ invariant-loop neighbours marked reached₀ i₀ reached i = (i ≤ length neigh
 abbrev decreases-loop : tie.decreases-loop
 decreases-loop neighbours marked reached₀ i₀ reached i = length neighbours - i
 
+-- src/lib.rt:22:5
 loop-holds : tie.Need-loop-init invariant-loop decreases-loop
 loop-holds c = (zero-le, passed_none c.before.args.neighbours.now c.before.args.marked)
 
+-- src/lib.rt:23:12
+-- src/lib.rt:24:33
+-- src/lib.rt:24:33
+-- src/lib.rt:26:9
+-- src/lib.rt:22:5
+-- src/lib.rt:22:5
 loop-again : tie.Need-loop-preserved invariant-loop decreases-loop
 loop-again c =
     let L = c.before.before.before in
@@ -32,6 +39,7 @@ loop-again c =
           c.if1.branch,
     )
 
+-- src/lib.rt:15:1
 returns : tie.Need-returns invariant-loop decreases-loop
 returns c =
     passed-all c.before.before.before.args.neighbours.now c.before.before.before.args.marked

@@ -14,19 +14,20 @@ use Rattle.comparison_search.proofs.tables.class_rows.Statement.{statement}
 use Rattle.comparison_search.proofs.tables.class_rows.Tie as tie
 
 abbrev invariant-loop : tie.invariant-loop
-invariant-loop table₀ n g second held₀ j₀ table held j =
+invariant-loop table₀ n g second j₀ table j =
     Triangular (equations_in table) × ((first : List Generator) (i : ℕ) → g ≡ get_or first i no_generator
     → ClassTable n first (generators_in second) i 0 (equations_in table₀)
     → ClassTable n first (generators_in second) i j (equations_in table))
 
 abbrev decreases-loop : tie.decreases-loop
-decreases-loop table₀ n g second held₀ j₀ table held j = n - j
+decreases-loop table₀ n g second j₀ table j = n - j
 
 loop-holds : tie.Need-loop-init invariant-loop decreases-loop
 loop-holds c = (c.requires.1, (λ first i e T. T))
 
 insert-requires : tie.Need-insert-requires invariant-loop decreases-loop
-insert-requires c κs = c.before.before.before.before.loop.invariant.0
+insert-requires c κs =
+    (c.before.before.before.before.before.requires.0, c.before.before.before.before.loop.invariant.0)
 
 loop-again : tie.Need-loop-preserved invariant-loop decreases-loop
 loop-again c =

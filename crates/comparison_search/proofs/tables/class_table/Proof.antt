@@ -13,30 +13,28 @@ use Rattle.comparison_search.proofs.tables.class_table.Statement.{statement}
 use Rattle.comparison_search.proofs.tables.class_table.Tie as tie
 
 abbrev invariant-loop : tie.invariant-loop
-invariant-loop table₀ n first second marks₀ i₀ table marks i = (i ≤ n) × ClassTable n (generators_in first)
-    (generators_in second) i 0
+invariant-loop table₀ n first second i₀ table i = (i ≤ n) × ClassTable n (generators_in first) (generators_in second) i 0
     (equations_in table)
 
 abbrev decreases-loop : tie.decreases-loop
-decreases-loop table₀ n first second marks₀ i₀ table marks i = n - i
+decreases-loop table₀ n first second i₀ table i = n - i
 
 loop-holds : tie.Need-loop-init invariant-loop decreases-loop
 loop-holds c =
-    let s = c.before in
-    let a = s.args in (
+    let a = c.args in (
       zero-le,
       class-start a.n (generators_in a.first.now) (generators_in a.second.now) (equations_in a.table.now)
-          (empty-triangular _ s.requires.1)
-          (empty-solved _ s.requires.1),
+          (empty-triangular _ c.requires.1)
+          (empty-solved _ c.requires.1),
     )
 
 class-rows-requires : tie.Need-class-rows-requires invariant-loop decreases-loop
 class-rows-requires c κs =
-    (c.before.before.before.before.before.requires.0, c.before.before.before.loop.invariant.1.triangular)
+    (c.before.before.before.before.requires.0, c.before.before.before.loop.invariant.1.triangular)
 
 loop-again : tie.Need-loop-preserved invariant-loop decreases-loop
 loop-again c =
-    let a = c.before.before.before.before.before.before.args in
+    let a = c.before.before.before.before.before.args in
     let l = c.before.before.before.before.loop in
     let G = c.before.before.generator-at in (
       omega (arith, c.before.before.before.loop-test.true),
@@ -45,7 +43,7 @@ loop-again c =
 
 returns : tie.Need-returns invariant-loop decreases-loop
 returns c =
-    let a = c.before.before.before.args in
+    let a = c.before.before.args in
     let l = c.before.loop in
     subst (λ k. ClassTable a.n (generators_in a.first.now) (generators_in a.second.now) k 0
     (equations_in l.table))
@@ -54,7 +52,6 @@ returns c =
 pub class-table-spec : {M : Type 1} → statement M
 class-table-spec =
     tie.close
-    (tie.spec invariant-loop decreases-loop (λ c κs. search rules) loop-holds (λ c κs. search rules) class-rows-requires
-    (λ c. search rules)
+    (tie.spec invariant-loop decreases-loop loop-holds (λ c κs. search rules) class-rows-requires (λ c. search rules)
     (λ c. omega arith)
     loop-again returns)

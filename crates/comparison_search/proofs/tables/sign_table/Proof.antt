@@ -79,14 +79,14 @@ element-requires c κs =
       ),
     )
 
-store-requires : tie.Need-store-requires invariant-loop decreases-loop
-store-requires c κs =
+insert-requires : tie.Need-insert-requires invariant-loop decreases-loop
+insert-requires c κs =
     let s = c.before.before.before.before.before.before.before.before.before.before.before.before.before in
     let a = s.args in
     let l = c.before.before.before.before.before.before.before.before.loop in
     let T = l.invariant.1 a.t6 a.t5 s.requires.0.0 s.requires.1.0 s.requires.0.2
     c.before.before.before.before.before.before.before.before.before.before.before.action-of.ensures in
-    T.0.triangular
+    (s.requires.0.0.few, T.0.triangular)
 
 add-i : tie.Need-overflow-add-i invariant-loop decreases-loop
 add-i c =
@@ -115,7 +115,7 @@ loop-again c =
           (S.proper.within l.i more)) h.ensures
           (equation_of e.result)
           (e.ensures ∙ ap (λ g. sign_equation g (not (beq p.result.minus h.result.minus))) g.ensures))
-          c.store.ensures),
+          c.insert.ensures),
     )
 
 returns : tie.Need-returns invariant-loop decreases-loop
@@ -135,4 +135,4 @@ sign-table-spec =
     (tie.spec invariant-loop decreases-loop (λ c. search rules) slice-aggregate-action-of action-of-requires (λ c. search rules)
     slice-aggregate-action-of-2 action-of-requires-2 loop-holds
     (λ c κs. search rules) (λ c κs. search rules) element-requires (λ c κs. search rules)
-    store-requires add-i (λ c. omega arith) loop-again returns)
+    insert-requires add-i (λ c. omega arith) loop-again returns)

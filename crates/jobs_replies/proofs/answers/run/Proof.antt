@@ -22,13 +22,12 @@ abbrev ran : tie.After-settle-last-arg3 → tie.After-run-steps
 ran c = c.before.before.before.before.before.before.before.before.before
 
 abbrev begun : tie.After-run-steps → tie.Start
-begun R = R.before.before.before.before.before.before.before.before.before
+begun R = R.before.before.before.before.before.before.before
 
 run-steps-requires : tie.Need-run-steps-requires
 run-steps-requires c κs =
-    let T = c.before.before.before.before in
-    let S = T.before.before.before.before in
-    (S.requires.0, (omega (arith, S.requires.1), first-ready _ (lent S) S.requires.2), T.composition-table.ensures)
+    let S = c.before.before.before.before.before.before in
+    (S.requires.0, (omega (arith, S.requires.1), first-ready _ (lent S) S.requires.2))
 
 settle-last-requires : tie.Need-settle-last-requires
 settle-last-requires c κs =
@@ -48,6 +47,5 @@ returns c =
 pub run_spec : {M : Type 1} → statement M
 run_spec =
     tie.close
-    (tie.spec (λ c κs. search rules) run-steps-requires settle-last-requires (λ c. search rules) (λ c. search rules)
-    (λ c. search rules)
+    (tie.spec run-steps-requires settle-last-requires (λ c. search rules) (λ c. search rules) (λ c. search rules)
     returns)

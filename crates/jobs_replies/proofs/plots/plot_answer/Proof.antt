@@ -37,20 +37,30 @@ slice-aggregate-print-plot-5 : tie.Need-slice-aggregate-print-plot-5
 slice-aggregate-print-plot-5 c =
     sym (part-long _ _ c.before.before.before.before.before.if1.false refl)
 
+slice-aggregate-print-plot-6 : tie.Need-slice-aggregate-print-plot-6
+slice-aggregate-print-plot-6 c =
+    sym (part-long _ _ c.before.before.before.before.before.before.if1.false refl)
+
+slice-aggregate-print-plot-7 : tie.Need-slice-aggregate-print-plot-7
+slice-aggregate-print-plot-7 c =
+    sym (part-long _ _ c.before.before.before.before.before.before.before.if1.false refl)
+
 print-plot-requires : tie.Need-print-plot-requires
 print-plot-requires c κs =
-    let I = c.before.before.before.before.before.before in
+    let I = c.before.before.before.before.before.before.before.before in
     record {
       few = I.if1.false;
       neighbours-long = part-long _ _ I.if1.false refl;
       codes-long = part-long _ _ I.if1.false refl;
+      words_long = part-long _ _ I.if1.false refl;
+      bytes-long = part-long _ _ I.if1.false refl;
       room = I.before.before.requires;
     }
 
 returns-2 : tie.Need-returns-2
 returns-2 c =
-    let P = c.before.before.before.before in
-    let I = P.before.before.before.before.before.before.before in
+    let P = c.before.before.before.before.before.before in
+    let I = P.before.before.before.before.before.before.before.before.before in
     same-print (places-plotted _ I.if1.false _ _ _) P.print-plot.ensures
 
 pub plot-answer-spec : {M : Type 1} → statement M
@@ -59,4 +69,5 @@ plot-answer-spec =
     (tie.spec (λ c κs. search rules) (λ c. search rules) returns (λ c. search rules) slice-aggregate-print-plot
     (λ c. search rules) slice-aggregate-print-plot-2 (λ c. search rules) slice-aggregate-print-plot-3
     (λ c. search rules) slice-aggregate-print-plot-4 (λ c. search rules) slice-aggregate-print-plot-5
+    (λ c. search rules) slice-aggregate-print-plot-6 (λ c. search rules) slice-aggregate-print-plot-7
     print-plot-requires (λ c. search rules) returns-2)

@@ -4,7 +4,7 @@ use Rattle.operations.proofs.UnrefusedRecords.{unrefused-codes, unrefused-place,
 use mathlib.Core.Bool.{true≢false}
 use borrow.Author.Tests.{not-true}
 use mathlib.Core.Path.{sym, ◌∙◌}
-use Rattle.operations_gates.proofs.UnsettledGroups.{ready-first, ready-separate, ready-second}
+use Rattle.operations_gates.proofs.UnsettledGroups.{ready-first, ready-parted, ready-second}
 use borrow.Author.Rules.{rules}
 use Rattle.operations_gates.proofs.unsettled.is_ready.Statement.{statement}
 use Rattle.operations_gates.proofs.unsettled.is_ready.Tie as tie
@@ -69,7 +69,7 @@ has-requires c κs =
 returns-5 : tie.Need-returns-5
 returns-5 c = λ e.
     let begun = c.before.before.before.before.before.before.before.before.before.before.before.before.before.before in
-    ready-separate _ _ begun.pre.0 begun.args.a begun.args.b
+    ready-parted _ _ begun.pre.0 begun.args.a begun.args.b
     (sym c.before.before.before.before.before.before.before.before.before.is-crossed.ensures ∙
     c.before.before.before.before.before.before.before.before.if1.false)
     (sym c.before.before.before.before.before.before.before.is-crossed2.ensures ∙

@@ -23,8 +23,8 @@ returns c = (
 uncross-both-requires : tie.Need-uncross-both-requires
 uncross-both-requires c κs = search rules
 
-separate-both-requires : tie.Need-separate-both-requires
-separate-both-requires c κs = search rules
+part-both-requires : tie.Need-part-both-requires
+part-both-requires c κs = search rules
 
 same-length-3 : tie.Need-same-length-3
 same-length-3 c = search rules
@@ -34,7 +34,7 @@ same-length-4 c = search rules
 
 returns-2 : tie.Need-returns-2
 returns-2 c =
-    let P = c.before.before.before.before.separate-both.ensures in (
+    let P = c.before.before.before.before.part-both.ensures in (
       kept_trans _ _ _ _ _ _
           c.before.before.before.before.before.before.before.before.before.before.before.uncross-both.ensures P.0,
       P.1,
@@ -49,7 +49,7 @@ make-ready-spec =
     same-length-2
     returns
     uncross-both-requires
-    separate-both-requires
+    part-both-requires
     same-length-3
     same-length-4
     returns-2)

@@ -46,14 +46,14 @@ slice-write-codes-2 c =
 
 returns-2 : tie.Need-returns-2
 returns-2 c =
-    let at-removal = c.before.before in
-    let branch = at-removal.before.before in
+    let at_part = c.before.before in
+    let branch = at_part.before.before in
     let at-hadamard = branch.before in
     let begun = at-hadamard.before.before.before.before in
     let start = begun.requires in
     isolated-alone _ _ start.0 begun.args.q begun.args.t branch.if1.false _ _ _
     (unrefused-place _ _ start.0 _ start.1) at-hadamard.with-hadamard.ensures refl
-    at-removal.remove-edges.auto.0 at-removal.remove-edges.ensures
+    at_part.remove-edges.auto.0 at_part.remove-edges.ensures
 
 pub isolate-spec : {M : Type 1} → statement M
 isolate-spec =

@@ -4,12 +4,12 @@ use Rattle.operations_measurement.proofs.MeasuredComplements.{complement-asks, c
 use Rattle.operations_measurement.proofs.undetermined.measure_y.Statement.{statement}
 use Rattle.operations_measurement.proofs.undetermined.measure_y.Tie as tie
 
-turn-removed-requires : tie.Need-turn-removed-requires
-turn-removed-requires c κs =
+turn-parted-requires : tie.Need-turn-parted-requires
+turn-parted-requires c κs =
     let at-complement = c.before.before.before.before.before in
     let begun = at-complement.before.before.before.before.before in
     let start = begun.requires in
-    let known = at-complement.complement-removing.ensures in
+    let known = at-complement.complement-parted.ensures in
     complement-asks _ _ start.0 begun.args.q start.1 _ _ known.1.0 known.1.1
 
 returns : tie.Need-returns
@@ -18,12 +18,12 @@ returns c =
     let at-complement = at_turn.before.before.before.before.before.before in
     let begun = at-complement.before.before.before.before.before in
     let start = begun.requires in
-    let known = at-complement.complement-removing.ensures in
+    let known = at-complement.complement-parted.ensures in
     complement-measured _ _ start.0 begun.args.q start.1 _ _ known.1.0 known.1.1
     begun.args.outcome _ _
-    at-complement.complement-removing.auto.0 known.0 at_turn.turn-removed.ensures
+    at-complement.complement-parted.auto.0 known.0 at_turn.turn-parted.ensures
 
 pub measure-y-spec : {M : Type 1} → statement M
 measure-y-spec =
     tie.close
-    (tie.spec (λ c κs. search rules) turn-removed-requires (λ c. search rules) (λ c. search rules) returns)
+    (tie.spec (λ c κs. search rules) turn-parted-requires (λ c. search rules) (λ c. search rules) returns)

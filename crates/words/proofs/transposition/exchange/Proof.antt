@@ -1,4 +1,5 @@
--- `exchange` meets its contract: one round on m rows and on m columns of each square.
+-- `exchange` meets its contract: one round on m rows and columns: bit s of the row's number and of the column's are
+-- exchanged.
 use mathlib.Core.List.{List}
 use mathlib.Core.Path.{◌≡◌}
 use Prim.Native.Nat.{◌%◌, ◌*◌, ◌+◌, ◌-◌, ◌<◌, ℕ, ◌≤◌}
@@ -22,7 +23,7 @@ use Rattle.words.proofs.transposition.exchange.Lts as lts
 
 abbrev invariant-loop2 : tie.invariant-loop2
 invariant-loop2 rows₀ m s low block k₀ rows k =
-    ((block ≤ k) × (k ≤ block + s)) × ((length rows ≡ 32) × ((first : List ℕ) → Upto m s block first rows₀ → Upto m s k
+    ((block ≤ k) × (k ≤ block + s)) × ((length rows ≡ 64) × ((first : List ℕ) → Upto m s block first rows₀ → Upto m s k
     first rows))
 
 abbrev decreases-loop2 : tie.decreases-loop2
@@ -41,7 +42,7 @@ filled c = c.before.requires.1.1 c.if1.false
 
 -- both rows of a pair are there
 there : (c : lts.In-loop2 reads.Pre reads.Post invariant-loop2 decreases-loop2 invariant-loop decreases-loop)
-    → c.before.loop2.k + c.before.before.before.before.before.args.s < 32
+    → c.before.loop2.k + c.before.before.before.before.before.args.s < 64
 there c =
     let P = c.before in
     let B = P.before in
