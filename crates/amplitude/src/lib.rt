@@ -1,7 +1,7 @@
 // Amplitudes for plotting: the answer, and a line of the plot. See specs/ for the definitions and proofs/ for the laws.
 
 // "the answer is nothing, .. or a value on the real axis, or a value on the imaginary axis"
-#[derive(Drop)]
+#[derive(Clone, Copy)]
 pub enum Amplitude {
     Nothing,
     Real(f64),
@@ -9,7 +9,7 @@ pub enum Amplitude {
 }
 
 // "Each plot line holds three floats, real part, imaginary part and probability"
-#[derive(Drop)]
+#[derive(Clone, Copy)]
 pub struct PlotLine {
     pub re: f64,
     pub im: f64,

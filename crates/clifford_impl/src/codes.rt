@@ -9,7 +9,7 @@ use crate::compositions::{entry, row};
 use pauli::{Letter, letter_of, x_bit, z_bit};
 
 // The letters to which X and Z go.
-#[derive(Drop)]
+#[derive(Clone, Copy)]
 pub struct ImageLetters {
     pub x: Letter,
     pub z: Letter,
@@ -63,14 +63,14 @@ fn image_minus(index: u8, letter: Letter) -> bool
 }
 
 // The image of a letter: a sign and a letter.
-#[derive(Drop)]
+#[derive(Clone, Copy)]
 pub struct SignedLetter {
     pub minus: bool,
     pub letter: Letter,
 }
 
 // A local Clifford, by its code.
-#[derive(Drop)]
+#[derive(Clone, Copy)]
 pub struct Code {
     pub index: u8,
 }

@@ -11,7 +11,7 @@ use words::{has, odd};
 
 // The action of the codes on the words z and x of a row: z becomes a z + b x and x becomes c z + d x, place by place;
 // sx, sy and sz have the places where the image of X, Y or Z is negative.
-#[derive(Drop)]
+#[derive(Clone, Copy)]
 pub struct Action {
     pub a: u64,
     pub b: u64,

@@ -7,7 +7,7 @@ ghost use Rattle.comparison_parts.specs.internal.Listed.{part_codes, renumbered,
 use words::{flip, flip_where, has, smallest};
 
 // The vertices of a set, in rising order, and how many there are.
-#[derive(Drop)]
+#[derive(Clone, Copy)]
 pub struct Places {
     pub count: usize,
     pub at: [u8; 64],

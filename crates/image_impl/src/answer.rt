@@ -26,7 +26,7 @@ pub struct ImageAnswer {
 }
 
 // The number, and how many vertices are on the list.
-#[derive(Drop)]
+#[derive(Clone, Copy)]
 pub struct Told {
     pub number: u8,
     pub count: usize,

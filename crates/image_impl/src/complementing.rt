@@ -8,7 +8,7 @@ use operations_rewriting::pivots::pivot_record;
 use words::single;
 
 // What the rule keeps beside the lent record and list: the bits C and D of the codes, and how many vertices are listed.
-#[derive(Drop)]
+#[derive(Clone, Copy)]
 pub struct Tracked {
     pub c: u64,
     pub d: u64,

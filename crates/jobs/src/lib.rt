@@ -10,7 +10,7 @@ ghost use Rattle.jobs.specs.internal.Asked.{value_limit, without_b, without_valu
 ghost use Rattle.jobs.specs.Parallel.{numbered_op};
 
 // The operations of a run. A job's text has the first five.
-#[derive(Drop)]
+#[derive(Clone, Copy)]
 pub enum Op {
     Gate,
     Cz,
@@ -22,7 +22,7 @@ pub enum Op {
 }
 
 // The fields as the text has them; what an operation does not use is 0.
-#[derive(Drop)]
+#[derive(Clone, Copy)]
 pub struct Step {
     pub op: Op,
     pub a: u16,
@@ -32,7 +32,7 @@ pub struct Step {
 
 // What a step answers: the number of its refusal, and of an accepted measurement the outcome and whether it was
 // determined.
-#[derive(Drop)]
+#[derive(Clone, Copy)]
 pub struct Answer {
     pub refusal: u8,
     pub outcome: u8,

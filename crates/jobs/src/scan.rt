@@ -2,7 +2,7 @@
 use crate::Op;
 
 // The number of qubits, and the numbers of a step.
-#[derive(Drop)]
+#[derive(Clone, Copy)]
 pub enum Field {
     N,
     A,
@@ -12,7 +12,7 @@ pub enum Field {
 
 // What the next byte must be: byte k of the lines `qubits` and `op a b value`, byte k of an operation and the space
 // after it, the first digit of a field, or a further digit or the byte that ends the field.
-#[derive(Drop)]
+#[derive(Clone, Copy)]
 pub enum Place {
     Head(usize),
     Word(usize),
@@ -22,7 +22,7 @@ pub enum Place {
 }
 
 // The place, n, the step and the number being read, and the number of steps read, of which at most 4,097 are counted.
-#[derive(Drop)]
+#[derive(Clone, Copy)]
 pub struct Scan {
     pub place: Place,
     pub n: u16,

@@ -8,7 +8,7 @@ ghost use Rattle.operations.specs.Measurement.{determined_number, outcome_number
 use buffers::sign_digit;
 
 // What a measurement answers, with the sign of its outcome: found in the group, or chosen by the bit.
-#[derive(Drop)]
+#[derive(Clone, Copy)]
 pub enum Outcome {
     Determined(bool),
     Chosen(bool),

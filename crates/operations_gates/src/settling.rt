@@ -13,14 +13,14 @@ use operations_rewriting::pivots::pivot_record;
 use words::{largest, single, smallest, without_smallest};
 
 // What a step may have changed: at the vertices `all`, and whether a code is odd, or 8 or more, at `ends` alone.
-#[derive(Drop)]
+#[derive(Clone, Copy)]
 struct Touched {
     all: u64,
     ends: u64,
 }
 
 // The vertices still to be looked at, and all those that can be out of place by their codes.
-#[derive(Drop)]
+#[derive(Clone, Copy)]
 struct Looked {
     rest: u64,
     watch: u64,

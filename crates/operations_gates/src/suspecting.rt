@@ -7,7 +7,7 @@ ghost use Rattle.operations_gates.specs.internal.Bytes.{Packed};
 ghost use Rattle.operations_gates.specs.internal.Suspects.{Marked};
 
 // What the look tells: whether a code is 24 or more, and, where none is, the vertices that may be out of place.
-#[derive(Drop)]
+#[derive(Clone, Copy)]
 pub struct Seen {
     pub over: bool,
     pub suspects: u64,

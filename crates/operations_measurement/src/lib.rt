@@ -37,7 +37,7 @@ pub fn letter_named(pauli: u8) -> Letter
 }
 
 // What is read off the record before a measurement: whether it is determined, and then the outcome's sign.
-#[derive(Drop)]
+#[derive(Clone, Copy)]
 pub struct Reading {
     pub determined: bool,
     pub minus: bool,

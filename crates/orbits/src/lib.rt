@@ -1,7 +1,7 @@
 // Orbits of graphs on few vertices under local complementation: see specs/ for the definitions and proofs/ for the laws.
 
 // Two vertices, the smaller first.
-#[derive(Drop)]
+#[derive(Clone, Copy)]
 pub struct Pair {
     pub low: usize,
     pub high: usize,

@@ -7,7 +7,7 @@ ghost use Rattle.pauli.specs.internal.Rows.{pauli_of};
 use words::{count, odd};
 
 // The letter at a place: of the pair (z, x), 00 is I, 01 is X, 10 is Z, 11 is Y.
-#[derive(Drop)]
+#[derive(Clone, Copy)]
 pub enum Letter {
     I,
     X,
@@ -79,7 +79,7 @@ fn sum_phase(a: u64, b: u64, c: u64) -> u64
 }
 
 // A generator: a sign bit (true means minus), a z word and an x word.
-#[derive(Drop)]
+#[derive(Clone, Copy)]
 pub struct Generator {
     pub minus: bool,
     pub z: u64,
@@ -87,7 +87,7 @@ pub struct Generator {
 }
 
 // A row: i to the power phase, times the letters of two words.
-#[derive(Drop)]
+#[derive(Clone, Copy)]
 pub struct Row {
     pub phase: u64,
     pub z: u64,

@@ -1,7 +1,7 @@
 // A line of a record's text.
 
 // What a line says of its qubit: its code, its neighbours, and whether it is used.
-#[derive(Drop)]
+#[derive(Clone, Copy)]
 pub struct RecordLine {
     pub code: u8,
     pub word: u64,

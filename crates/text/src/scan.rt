@@ -2,7 +2,7 @@
 
 // What the next byte must be: a byte of the names line, a sign digit, the space after it, a digit of z or the space
 // after the last, a digit of x or the newline. The number counts the bytes of the field that have been read.
-#[derive(Drop)]
+#[derive(Clone, Copy)]
 pub enum Place {
     Names(usize),
     Sign,
@@ -13,7 +13,7 @@ pub enum Place {
 }
 
 // The place, the line being read, and the number of lines read, of which at most 65 are counted.
-#[derive(Drop)]
+#[derive(Clone, Copy)]
 pub struct Scan {
     pub place: Place,
     pub sign: u8,
@@ -22,7 +22,7 @@ pub struct Scan {
     pub count: usize,
 }
 
-#[derive(Drop)]
+#[derive(Clone, Copy)]
 pub struct Verdict {
     pub has_form: bool,
     pub count: usize,

@@ -78,7 +78,7 @@ pub fn starts_with(text: &[u8], head: &[u8], size: usize) -> bool
 }
 
 // What a line says, how many bytes its print has, and whether the text starts with it.
-#[derive(Drop)]
+#[derive(Clone, Copy)]
 pub struct ReadLine {
     pub line: RecordLine,
     pub size: usize,
