@@ -1,0 +1,62 @@
+-- `turns` meets its contract: the turns of a word, from 0 to 3: those of its vertices without a Hadamard.
+use mathlib.Core.Path.{refl}
+use Prim.Native.Nat.{◌-◌}
+use native.Mathlib.Omega.{arith}
+use Rattle.amplitude.specs.internal.KeptTurns.{kept_turns}
+use Rattle.operations.proofs.UnrefusedRecords.{unrefused-codes, unrefused-place, unrefused-short}
+use Rattle.words.specs.Bits.{fold}
+use Rattle.amplitude_impl.proofs.Loops.{chosen-low, turns-all, turns_more, turns-small}
+use Rattle.amplitude_impl.proofs.turns.turns.Goals as goal
+
+pub kept-requires : goal.kept-requires
+kept-requires c = unrefused-codes _ _ c.requires
+
+pub loop-j-init : goal.loop-j-init
+unfolding kept_turns fold
+loop-j-init c = (omega arith, refl)
+
+pub bounds-codes-j : goal.bounds-codes-j
+bounds-codes-j c =
+    let inside = c.before.before.before in
+    unrefused-place _ _ inside.requires _ inside.loop-j-test.true
+
+pub turns_of-requires : goal.turns_of-requires
+turns_of-requires c =
+    let inside = c.before.before.before in
+    let K = inside.before.before in
+    let start = K.before.before.before in (
+      omega (arith, inside.loop-j-test.true, unrefused-short _ _ start.requires),
+      chosen-low _ _ start.requires start.args.y _ (_, K.kept.ensures, refl) _ inside.loop-j-test.true,
+    )
+
+pub overflow_add-sum : goal.overflow_add-sum
+overflow_add-sum c =
+    let inside = c.before.before.before.before in
+    let K = inside.before.before in
+    let start = K.before.before.before in
+    omega (
+      arith,
+      turns-small _ _ start.requires start.args.y _ (_, K.kept.ensures, refl) _ _ _
+          inside.loop-j.invariant.1 c.turns_of.ensures,
+    )
+
+pub loop-j-smaller : goal.loop-j-smaller
+loop-j-smaller c = omega (arith, c.loop-j-test.true)
+
+pub loop-j-preserved : goal.loop-j-preserved
+loop-j-preserved c =
+    let inside = c.before.before.before.before in
+    let K = inside.before.before in
+    let start = K.before.before.before in
+    let t = inside.loop-j-test.true in (
+      omega arith,
+      turns_more _ _ start.requires start.args.y _ (_, K.kept.ensures, refl) _ _ _ inside.loop-j-test.true
+          inside.loop-j.invariant.1 c.turns_of.ensures,
+    )
+
+pub returns : goal.returns
+returns c =
+    let K = c.before.before.before in
+    let start = K.before.before.before in
+    turns-all _ _ start.requires start.args.y _ (_, K.kept.ensures, refl) _ _ c.loop-j.invariant.0
+    c.loop-j-test.false c.loop-j.invariant.1

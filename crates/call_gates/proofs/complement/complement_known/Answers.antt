@@ -1,0 +1,47 @@
+-- `complement_known` meets its contract: local complementation at a vertex; the record is not reduced.
+use mathlib.Core.Bool.{false}
+use mathlib.Core.Path.{◌≡◌, refl}
+use lib.Dec.{leb}
+use Rattle.buffers.specs.Refusals.{first_fitting}
+use Rattle.buffers.proofs.Calling.{refused}
+use Rattle.operations.specs.Steps.{Operation, complement_of}
+use Rattle.operations.specs.Used.{used_lines_of, UsedRecord, used_record}
+use Rattle.calls.proofs.InPlaceCalls.{as_before, in-place-done}
+use Rattle.calls.proofs.InPlaceLines.{complement-ready}
+use Rattle.calls.proofs.UsedInPlace.{named-as}
+use Rattle.call_gates.proofs.complement.complement_known.Goals as goal
+
+-- the record that is lent
+abbrev lent : goal.Start → UsedRecord
+lent S = used_record S.args.n S.args.neighbours.now S.args.codes.now S.args.used
+
+abbrev asked : goal.Start → Operation
+asked S = complement_of S.args.a
+
+-- the number of its lines
+number : (E : goal.After-in_place_refusal-early)
+    → E.in_place_refusal-early.result ≡ first_fitting (used_lines_of (lent E.before.before.before.before.before.before)
+    (asked E.before.before.before.before.before.before))
+number E =
+    let I = E.before.before.before in
+    let S = I.before.before.before in
+    named-as (lent S) false (leb S.args.n S.args.a) E.in_place_refusal-early.ensures
+    I.bit_at.ensures
+
+pub returns-then-early-ne0 : goal.returns-then-early-ne0
+returns-then-early-ne0 c = refused _ (number c.before) c.if-early-ne0.true (refl, (refl, tt))
+
+pub complement_record-requires : goal.complement_record-requires
+complement_record-requires c =
+    let D = c.before.before in
+    let S = D.before.before.before.before.before.before.before in
+    complement-ready (lent S).held S.args.a
+    (as_before (lent S) (asked S) (number D.before) D.if-early-ne0.false)
+
+pub returns : goal.returns
+returns c =
+    let G = c.before.before.before.before.before in
+    let D = G.before.before.before in
+    let S = D.before.before.before.before.before.before.before in
+    in-place-done (lent S) (asked S) (number D.before) D.if-early-ne0.false
+    G.complement_record.ensures.neighbours G.complement_record.ensures.numbers

@@ -1,0 +1,9 @@
+-- `found` meets its contract: the vertices with a code that is odd, or 8 or more.
+use mathlib.Core.Path.{subst}
+use Rattle.call_gates.specs.internal.Knowing.{Found}
+use Rattle.call_gates.proofs.found.Goals as goal
+
+pub returns-else-known : goal.returns-else-known
+returns-else-known c =
+    let S = c.before.before.before in
+    subst (λ b. Found b S.args.codes.now S.args.word) c.if-known.false S.requires.found

@@ -1,0 +1,64 @@
+-- `gate_known` meets its contract: a code applied after the code held at a qubit, and the reduced record.
+use mathlib.Core.Path.{◌≡◌, refl}
+use lib.Dec.{leb}
+use Rattle.buffers.specs.Refusals.{first_fitting}
+use Rattle.buffers.proofs.Calling.{refused}
+use Rattle.operations.proofs.UnrefusedRecords.{unrefused-codes}
+use Rattle.operations.specs.Steps.{Operation, gate_with}
+use Rattle.operations.specs.Used.{used_lines_of, UsedRecord, used_record}
+use Rattle.calls.proofs.InPlaceCalls.{as_before, in-place-done}
+use Rattle.calls.proofs.InPlaceLines.{gate-ready}
+use Rattle.call_gates.proofs.KnownRecords.{marked-words, known-codes}
+use Rattle.calls.proofs.UsedInPlace.{named-as}
+use Rattle.call_gates.proofs.gate_known.Goals as goal
+
+-- the record that is lent
+abbrev lent : goal.Start → UsedRecord
+lent S = used_record S.args.n S.args.neighbours.now S.args.codes.now S.args.used
+
+abbrev asked : goal.Start → Operation
+asked S = gate_with S.args.qubit S.args.code
+
+-- the number of its lines
+number : (E : goal.After-in_place_number-early)
+    → E.in_place_number-early.result
+    ≡ first_fitting (used_lines_of (lent E.before.before.before.before.before.before.before.before)
+    (asked E.before.before.before.before.before.before.before.before))
+number E =
+    let I = E.before.before.before.before.before in
+    let S = I.before.before.before in
+    named-as (lent S) (leb 24 S.args.code) (leb S.args.n S.args.qubit) E.in_place_number-early.ensures
+    I.bit_at.ensures
+
+pub first_look-seen-requires : goal.first_look-seen-requires
+first_look-seen-requires c =
+    let S = c.before.before.before.before.before in
+    known-codes (lent S) S.requires
+
+pub returns-then-early-ne0 : goal.returns-then-early-ne0
+returns-then-early-ne0 c = refused _ (number c.before) c.if-early-ne0.true (refl, (refl, tt))
+
+pub found-touched-requires : goal.found-touched-requires
+found-touched-requires c =
+    let D = c.before in
+    let F = D.before.before.before.before in
+    let S = F.before.before.before.before.before in
+    let ready = gate-ready (lent S).held S.args.qubit S.args.code
+    (as_before (lent S) (asked S) (number D.before) D.if1.false) in
+    (unrefused-codes _ _ ready.0, F.first-look.ensures.1)
+
+pub gate_record-requires : goal.gate_record-requires
+gate_record-requires c =
+    let W = c.before.before in
+    let D = W.before.before in
+    let S = D.before.before.before.before.before.before.before.before.before in
+    let ready = gate-ready (lent S).held S.args.qubit S.args.code
+    (as_before (lent S) (asked S) (number D.before) D.if1.false) in record { unrefused = ready.0; q_in_bounds = ready.1; suspected = marked-words _ _ _ ready.0 W.found-touched.ensures }
+
+pub returns : goal.returns
+returns c =
+    let G = c.before.before.before.before.before in
+    let D = G.before.before.before.before.before in
+    let S = D.before.before.before.before.before.before.before.before.before in
+    in-place-done (lent S) (asked S) (number D.before) D.if1.false
+    G.gate_record.ensures.neighbours G.gate_record.ensures.numbers

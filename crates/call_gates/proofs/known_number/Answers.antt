@@ -1,0 +1,23 @@
+-- `known_number` meets its contract: the number of the first line of a record that holds, which need not be looked for
+-- where none is known to hold; `six`: line 6 holds of a further argument.
+use mathlib.Core.Bool.{false}
+use mathlib.Core.Path.{◌∙◌}
+use Rattle.operations.specs.Used.{UsedRecord, used_record}
+use Rattle.operations_checks.proofs.UsedNumbers.{no-further}
+use Rattle.call_gates.proofs.KnownRecords.{known-true, six-alone}
+use Rattle.call_gates.proofs.known_number.Goals as goal
+
+-- the record that is lent
+abbrev lent : goal.Start → UsedRecord
+lent S = used_record S.args.n S.args.neighbours.now S.args.codes.now S.args.used
+
+pub returns-then-known : goal.returns-then-known
+returns-then-known c =
+    let branch = c.before.before in
+    let S = branch.before.before.before in
+    c.six_number.ensures ∙ six-alone (lent S) (known-true (lent S) S.requires.known branch.if-known.true) S.args.six
+
+pub returns : goal.returns
+returns c =
+    let S = c.before.before.before.before.before in
+    no-further (lent S) false S.args.six c.used_number.ensures

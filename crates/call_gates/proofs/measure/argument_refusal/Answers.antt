@@ -1,0 +1,18 @@
+-- `argument_refusal` meets its contract: the number of the first line of a measurement's arguments that holds.
+use mathlib.Core.Bool.{◌||◌}
+use lib.Dec.{eqb, leb}
+use Rattle.calls.proofs.UsedInPlace.{named-as}
+use Rattle.operations.specs.Used.{UsedRecord, used_record}
+use Rattle.call_gates.proofs.measure.argument_refusal.Goals as goal
+
+-- the record that is lent
+abbrev lent : goal.Start → UsedRecord
+lent S = used_record S.args.n S.args.neighbours.now S.args.codes.now S.args.used
+
+pub returns : goal.returns
+returns c =
+    let I = c.before.before in
+    let S = I.before.before.before in
+    let a = S.args in
+    named-as (lent S) (leb 2 a.outcome || (eqb a.pauli 0 || leb 4 a.pauli)) (leb a.n a.qubit)
+    c.in_place_refusal.ensures I.bit_at-sixteen.ensures

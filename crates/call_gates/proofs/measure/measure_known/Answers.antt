@@ -1,0 +1,65 @@
+-- `measure_known` meets its contract: a Pauli measured at a qubit: the outcome, whether it was determined, the reduced
+-- record, and the qubit marked as used.
+use mathlib.Core.Path.{◌≡◌, ap, refl}
+use native.Mathlib.Omega.{arith}
+use lib.Bits.{bit_or}
+use Rattle.buffers.specs.Refusals.{first_fitting}
+use Rattle.calls.proofs.InPlaceCalls.{as_before, measure-done}
+use Rattle.calls.proofs.InPlaceLines.{measure-ready}
+use Rattle.calls.proofs.MeasureLines.{measure-passes}
+use Rattle.buffers.proofs.Calling.{refused}
+use Rattle.operations.specs.Steps.{Operation, lines_of, measurement_of}
+use Rattle.operations.proofs.AcceptedSteps.{accepted-step, measure-arguments}
+use Rattle.operations.specs.Used.{UsedRecord, used_record}
+use Rattle.call_gates.proofs.measure.measure_known.Goals as goal
+
+-- the record that is lent
+abbrev lent : goal.Start → UsedRecord
+lent S = used_record S.args.n S.args.neighbours.now S.args.codes.now S.args.used.now
+
+abbrev asked : goal.Start → Operation
+asked S = measurement_of S.args.pauli S.args.qubit S.args.outcome
+
+-- accepted, no line held without the used word
+before : (D : goal.Else-early-ne0) → let S = D.before.before.before.before.before.before.before.before.before in
+    first_fitting (lines_of (lent S).held (asked S)) ≡ 0
+before D =
+    let E = D.before.before in
+    let S = E.before.before.before.before.before.before in
+    as_before (lent S) (asked S) E.measure_refusal-early.ensures D.if-early-ne0.false
+
+pub returns-then-early-ne0 : goal.returns-then-early-ne0
+returns-then-early-ne0 c = refused _ c.measure_refusal-early.ensures c.if-early-ne0.true (refl, (refl, (refl, (refl, (refl, tt)))))
+
+pub measure_record-measured-requires : goal.measure_record-measured-requires
+measure_record-measured-requires c =
+    let D = c.before.before.before in
+    let S = D.before.before.before.before.before.before.before in
+    let a = S.args in
+    measure-ready (lent S).held a.pauli a.qubit a.outcome
+    (measure-passes (lent S).held a.pauli a.qubit a.outcome (before D)).0
+
+pub single-requires : goal.single-requires
+single-requires c =
+    let G = c.before.before.before.before.before.before.before in
+    let D = G.before.before.before in
+    let S = D.before.before.before.before.before.before.before in
+    let a = S.args in
+    omega (
+      arith,
+      (accepted-step (lent S).held (asked S) (before D)).upto,
+      (measure-arguments (lent S).held a.pauli a.qubit a.outcome (before D)).below,
+    )
+
+pub returns : goal.returns
+returns c =
+    let M = c.before.before in
+    let N = M.before in
+    let G = N.before.before.before.before.before in
+    let D = G.before.before.before in
+    let E = D.before in
+    let S = E.before.before.before.before.before.before in
+    let a = S.args in
+    measure-done (lent S) a.pauli a.qubit a.outcome a.answer.now a.determined.now
+    E.measure_refusal-early.ensures D.if-early-ne0.false _ _ _ G.measure_record-measured.ensures _ _ _
+    (ap (bit_or a.used.now) c.single.ensures) N.outcome_number.ensures M.determined_number.ensures

@@ -1,0 +1,47 @@
+-- `chosen_product` meets its contract: the product of the chosen rows, in index order, its phase from 0 to 3.
+use mathlib.Core.Logic.{⊎_elim}
+use mathlib.Core.Path.{◌∙◌, subst, sym}
+use Prim.Native.Nat.{◌+◌, ◌-◌}
+use native.Mathlib.Omega.{arith}
+use Rattle.stabilizer.specs.Lists.{GeneratorList}
+use Rattle.call_lists.proofs.PartProducts.{PartProduct, no_part, part_off, part-on, row_read, whole-product}
+use Rattle.calls.proofs.ProductLines.{accepted-rows}
+use Rattle.call_lists.proofs.product.chosen_product.Goals as goal
+
+pub loop-j-init : goal.loop-j-init
+loop-j-init c = no_part _ _
+
+pub has-requires : goal.has-requires
+has-requires c =
+    let a = c.args in
+    let l : GeneratorList = record { n = a.n; signs = a.signs.now; z = a.z.now; x = a.x.now } in
+    let F = accepted-rows l a.chosen c.requires in
+    omega (arith, F.upto, c.loop-j-test.true)
+
+pub row_at-row-requires : goal.row_at-row-requires
+row_at-row-requires c =
+    let S = c.before.before.before.before.before.before.before.before in
+    let a = S.args in
+    let l : GeneratorList = record { n = a.n; signs = a.signs.now; z = a.z.now; x = a.x.now } in
+    row_read l a.chosen S.requires c.loop-j.j c.loop-j-test.true
+
+pub loop-j-preserved : goal.loop-j-preserved
+loop-j-preserved c =
+    let L = c.loop-j in
+    let S = c.before.before.before.before.before.before.before.before in
+    let a = S.args in
+    let l : GeneratorList = record { n = a.n; signs = a.signs.now; z = a.z.now; x = a.x.now } in
+    let test = c.has.ensures in
+    let more = c.loop-j-test.true in
+    ⊎_elim
+    (λ k. subst (PartProduct l a.chosen (L.j + 1)) (sym k.3)
+    (part-on l a.chosen S.requires L.j L.product L.invariant more _ _ (sym test ∙ k.0.taken) k.1.ensures
+    k.2.ensures))
+    (λ k. subst (PartProduct l a.chosen (L.j + 1)) (sym k.1)
+    (part_off l a.chosen S.requires L.j L.product L.invariant more (sym test ∙ k.0.left)))
+    c.if-has.branch
+
+pub returns : goal.returns
+returns c =
+    let L = c.loop-j in
+    whole-product _ _ L.j L.product L.invariant c.loop-j-test.false

@@ -1,0 +1,46 @@
+-- `cz` meets its contract: CZ on two qubits of the party, whose vertices are reduced.
+use mathlib.Core.Bool.{◌||◌}
+use mathlib.Core.Path.{◌≡◌, ap₂, refl}
+use Rattle.buffers.specs.Refusals.{first_fitting}
+use Rattle.buffers.proofs.Calling.{refused}
+use Rattle.parties.specs.PartyLines.{names_other}
+use Rattle.parties.specs.Masks.{in_party}
+use Rattle.parties.specs.internal.Apart.{cz-op}
+use Rattle.operations.specs.Steps.{Operation, cz_on}
+use Rattle.operations.specs.Used.{UsedRecord, used_record}
+use Rattle.parties_impl.proofs.EarlyNumbers.{early-admitted, early-refused, other-as}
+use Rattle.parties_impl.specs.internal.BeforeEight.{before_eight, six_of}
+use Rattle.call_parties.proofs.cz.Goals as goal
+
+-- the record that is lent
+abbrev lent : goal.Start → UsedRecord
+lent S = used_record S.args.n S.args.neighbours.now S.args.codes.now S.args.used
+
+abbrev asked : goal.Start → Operation
+asked S = cz_on S.args.a S.args.b
+
+-- the number of the lines before 8
+number : (E : goal.After-party_refusal-early) → let S = E.before.before.before.before.before.before.before in
+    E.party_refusal-early.result ≡ first_fitting (before_eight S.args.word S.args.party (lent S) (six_of (asked S))
+    (names_other (in_party S.args.word S.args.party) S.args.n (asked S)))
+number E =
+    let O = E.before.before.before in
+    let S = O.before.before.before.before in
+    other-as S.args.word S.args.party (lent S) (six_of (asked S)) E.party_refusal-early.ensures
+    (ap₂ ◌||◌ O.outside.ensures O.outside2.ensures)
+
+pub returns-then-early-ne0 : goal.returns-then-early-ne0
+returns-then-early-ne0 c =
+    let E = c.before in
+    let O = E.before.before.before in
+    let S = O.before.before.before.before in
+    refused _ (early-refused S.args.word S.args.party (lent S) (asked S) (cz-op _ _) (number E) c.if-early-ne0.true)
+    c.if-early-ne0.true (refl, (refl, tt))
+
+pub cz_within-requires : goal.cz_within-requires
+cz_within-requires c =
+    let D = c.before.before.before.before in
+    let E = D.before in
+    let O = E.before.before.before in
+    let S = O.before.before.before.before in record { admitted = early-admitted S.args.word S.args.party (lent S) (asked S)
+          (number E) D.if-early-ne0.false; words_len = (refl {a = 64}, refl {a = 64}) }

@@ -1,0 +1,61 @@
+-- `renew` meets its contract: a new photon at a used qubit of the party.
+use mathlib.Core.Bool.{not}
+use mathlib.Core.Path.{◌≡◌, ◌∙◌, ap, refl}
+use Rattle.buffers.specs.Refusals.{first_fitting}
+use Rattle.buffers.proofs.Calling.{refused}
+use Rattle.parties_impl.proofs.EarlyNumbers.{other-as}
+use Rattle.parties_impl.specs.internal.BeforeEight.{before_eight}
+use Rattle.parties.specs.PartyLines.{outsider}
+use Rattle.parties.specs.Masks.{in_party}
+use Rattle.operations.specs.Used.{used_code, UsedRecord, used_record}
+use Rattle.call_parties.proofs.PartySourceCalls.{renew-admitted, renew-early-party, renew-whole}
+use Rattle.call_parties.proofs.source_calls.renew.Goals as goal
+
+-- the record that is lent
+abbrev lent : goal.Start → UsedRecord
+lent S = used_record S.args.n S.args.neighbours.now S.args.codes.now S.args.used.now
+
+abbrev at : goal.After-party_refusal-early → goal.Start
+at E = E.before.before.before.before.before.before.before.before.before
+
+-- the number of the lines before 8
+number : (E : goal.After-party_refusal-early) → let S = at E in
+    E.party_refusal-early.result ≡ first_fitting (before_eight S.args.word S.args.party (lent S)
+    (not (used_code S.args.code))
+    (outsider (in_party S.args.word S.args.party) S.args.n S.args.qubit))
+number E =
+    let N = E.before.before.before.before.before in
+    let S = at E in
+    let a = S.args in
+    other-as a.word a.party (lent S) (not (used_code a.code))
+    (E.party_refusal-early.ensures
+    ∙ ap (λ s. first_fitting (before_eight a.word a.party (lent S) s N.outside.result))
+    N.no-photon.ensures)
+    N.outside.ensures
+
+pub returns-then-early-ne0 : goal.returns-then-early-ne0
+returns-then-early-ne0 c =
+    let E = c.before in
+    let S = at E in
+    let a = S.args in
+    refused _ (renew-early-party a.word a.party (lent S) a.qubit a.code (number E) c.if-early-ne0.true)
+    c.if-early-ne0.true (refl, (refl, (refl, tt)))
+
+pub renew_known-requires : goal.renew_known-requires
+renew_known-requires c =
+    let D = c.before.before.before.before in
+    let S = at D.before in
+    let a = S.args in
+    record {
+      no_line = (renew-admitted a.word a.party (lent S) a.qubit a.code (number D.before) D.if-early-ne0.false
+          ).apart.passes;
+    }
+
+pub returns : goal.returns
+returns c =
+    let R = c.before.before.before.before.before in
+    let D = R.before.before.before.before in
+    let S = at D.before in
+    let a = S.args in
+    renew-whole a.word a.party (lent S) a.qubit a.code (number D.before) D.if-early-ne0.false
+    R.renew_known.ensures

@@ -1,0 +1,65 @@
+-- `shared_refusal` meets its contract: the first of the shared lines that holds.
+use mathlib.Core.List.{[]}
+use mathlib.Core.Path.{◌∙◌, refl, sym}
+use Rattle.parties_impl.proofs.OwnWords.{crosses-reads}
+use Rattle.store.specs.Places.{Store}
+use Rattle.operations.specs.Used.{UsedRecord, used_record}
+use Rattle.call_parties.proofs.Sharing.{shared-2, shared-early, shared_last, words-fit}
+use Rattle.call_parties.proofs.stores.shared_refusal.Goals as goal
+
+-- the record that is lent
+abbrev lent : goal.Start → UsedRecord
+lent S = used_record S.args.n S.args.neighbours.now S.args.codes.now S.args.used
+
+-- the store that is lent
+abbrev store : goal.Start → Store
+store S = record { heads = S.args.heads.now; neighbours = S.args.held-neighbours.now; codes = S.args.held-codes.now }
+
+pub returns-then-n-ne64 : goal.returns-then-n-ne64
+returns-then-n-ne64 c =
+    let S = c.before.before.before.before.before.before.before in
+    shared-2 S.args.word S.args.party (lent S) (store S) c.if-n-ne64.true
+
+pub returns-then-early-ne0 : goal.returns-then-early-ne0
+returns-then-early-ne0 c =
+    let E = c.before.before in
+    let G = E.before in
+    let B = G.before in
+    let S = B.before.before.before.before.before.before.before in
+    shared-early S.args.word S.args.party (lent S) (store S) B.if-n-ne64.false _ _ _
+    B.both_refusal-both.ensures G.party_number.ensures E.earlier-early.ensures c.if-early-ne0.true
+
+pub crosses-requires : goal.crosses-requires
+crosses-requires c =
+    let E = c.before.before in
+    let G = E.before in
+    let B = G.before in
+    let S = B.before.before.before.before.before.before.before in
+    words-fit S.args.word S.args.party (lent S) (store S) B.if-n-ne64.false _ _ _
+    B.both_refusal-both.ensures G.party_number.ensures E.earlier-early.ensures c.if-early-ne0.false
+
+pub returns-then-crosses : goal.returns-then-crosses
+returns-then-crosses c =
+    let X = c.before.before in
+    let E = X.before.before in
+    let G = E.before in
+    let B = G.before in
+    let S = B.before.before.before.before.before.before.before in
+    shared_last S.args.word S.args.party (lent S) (store S) B.if-n-ne64.false _ _ _
+    B.both_refusal-both.ensures G.party_number.ensures E.earlier-early.ensures X.if-early-ne0.false _
+    (sym c.if-crosses.true ∙ X.crosses.ensures
+    ∙ crosses-reads (used_record 64 S.args.neighbours.now [] 0) (lent S) (sym B.if-n-ne64.false) refl
+    S.args.word)
+
+pub returns-else-crosses : goal.returns-else-crosses
+returns-else-crosses c =
+    let X = c.before.before in
+    let E = X.before.before in
+    let G = E.before in
+    let B = G.before in
+    let S = B.before.before.before.before.before.before.before in
+    shared_last S.args.word S.args.party (lent S) (store S) B.if-n-ne64.false _ _ _
+    B.both_refusal-both.ensures G.party_number.ensures E.earlier-early.ensures X.if-early-ne0.false _
+    (sym c.if-crosses.false ∙ X.crosses.ensures
+    ∙ crosses-reads (used_record 64 S.args.neighbours.now [] 0) (lent S) (sym B.if-n-ne64.false) refl
+    S.args.word)

@@ -1,0 +1,145 @@
+-- `image` meets its contract: the image graph, its signs, and the list of the vertices complemented.
+use mathlib.Core.Bool.{◌||◌}
+use mathlib.Core.List.{[]}
+use mathlib.Core.Path.{ap₂, refl, sym, ◌∙◌}
+use Rattle.buffers.proofs.Parts.{part-long}
+use Rattle.image_impl.proofs.Answering.{answered-longer}
+use Rattle.operations.proofs.UnrefusedRecords.{accepted-unrefused}
+use Rattle.record.specs.Accepted.{AcceptedRecord}
+use Rattle.record.specs.Lent.{LentRecord, lent_record}
+use Rattle.call_readings.proofs.ImageCalls.{accepted-held, graph-upto, image-accepted, image-looped, image-refused, list-has-room, signs-upto}
+use Rattle.call_readings.proofs.images.image.Goals as goal
+
+pub returns-then-early-ne0 : goal.returns-then-early-ne0
+returns-then-early-ne0 c =
+    let E = c.before.before in
+    let O = E.before in
+    let a = O.args in
+    let l : LentRecord = lent_record a.n a.neighbours.now a.codes.now in
+    let o = ap₂ ◌||◌ O.other_than.ensures
+    (ap₂ ◌||◌ O.other_than-2.ensures O.other_than-3.ensures) in
+    image-refused l a.image.now a.signs.now a.list.now a.count.now _ o _
+    E.record_refusal-early.ensures c.if-early-ne0.true
+
+-- the record is accepted where nothing has refused
+accepted : (c : goal.Else-early-ne0) → let O = c.before.before.before.before in
+    let a = O.args in
+    AcceptedRecord (lent_record O.args.n O.args.neighbours.now O.args.codes.now)
+accepted c =
+    let E = c.before.before in
+    let O = E.before in
+    let a = O.args in
+    let l : LentRecord = lent_record a.n a.neighbours.now a.codes.now in
+    let o = ap₂ ◌||◌ O.other_than.ensures
+    (ap₂ ◌||◌ O.other_than-2.ensures O.other_than-3.ensures) in
+    accepted-held l a.image.now a.signs.now a.list.now a.count.now _ o _
+    E.record_refusal-early.ensures c.if-early-ne0.false
+
+pub slice_bounds-graph-end : goal.slice_bounds-graph-end
+slice_bounds-graph-end c = (accepted c).upto
+
+pub slice_bounds-image_in-end : goal.slice_bounds-image_in-end
+slice_bounds-image_in-end c = sym (part-long _ _ (accepted c.before.before).upto refl)
+
+pub slice_bounds-minus-end : goal.slice_bounds-minus-end
+slice_bounds-minus-end c = (accepted c.before.before).upto
+
+pub slice_bounds-image_in-end-2 : goal.slice_bounds-image_in-end-2
+slice_bounds-image_in-end-2 c = sym (part-long _ _ (accepted c.before.before.before).upto refl)
+
+pub image_in-told-requires : goal.image_in-told-requires
+image_in-told-requires c =
+    let A = accepted c.before.before.before.before in (
+      accepted-unrefused _ _ _ A,
+      (
+        part-long _ _ A.upto refl ∙ sym A.neighbours-length,
+        part-long _ _ A.upto refl ∙ sym A.neighbours-length,
+        refl,
+      ),
+    )
+
+pub returns-then-told-ne0 : goal.returns-then-told-ne0
+returns-then-told-ne0 c =
+    let P = c.before.before.before.before.before.before in
+    let H = P.before.before.before.before in
+    let A = accepted H in
+    let E = H.before in
+    let O = E.before in
+    let a = O.args in
+    let l : LentRecord = lent_record a.n a.neighbours.now a.codes.now in
+    let o = ap₂ ◌||◌ O.other_than.ensures
+    (ap₂ ◌||◌ O.other_than-2.ensures O.other_than-3.ensures) in
+    image-looped l a.image.now a.signs.now a.list.now a.count.now _ o _
+    E.record_refusal-early.ensures H.if-early-ne0.false _
+    (answered-longer _ _ _ A _ _ _ _ _ P.image_in-told.ensures [] []
+    (P.image_in-told.auto.1.1.0 ∙ part-long _ _ A.upto refl)
+    (P.image_in-told.auto.1.1.1.0 ∙ part-long _ _ A.upto refl))
+    c.if-told-ne0.true
+
+pub copy_words-requires : goal.copy_words-requires
+copy_words-requires c =
+    let H = c.before.before.before.before.before.before.before.before.before.before.before in
+    let E = H.before in
+    let O = E.before in
+    let a = O.args in
+    let l : LentRecord = lent_record a.n a.neighbours.now a.codes.now in
+    let o = ap₂ ◌||◌ O.other_than.ensures
+    (ap₂ ◌||◌ O.other_than-2.ensures O.other_than-3.ensures) in
+    graph-upto l a.image.now a.signs.now a.list.now a.count.now _ o _
+    E.record_refusal-early.ensures H.if-early-ne0.false
+
+pub copy_bytes-requires : goal.copy_bytes-requires
+copy_bytes-requires c =
+    let W = c.before.before.before.before in
+    let H = W.before.before.before.before.before.before.before.before.before.before.before in
+    let E = H.before in
+    let O = E.before in
+    let a = O.args in
+    let l : LentRecord = lent_record a.n a.neighbours.now a.codes.now in
+    let o = ap₂ ◌||◌ O.other_than.ensures
+    (ap₂ ◌||◌ O.other_than-2.ensures O.other_than-3.ensures) in
+    signs-upto l a.image.now a.signs.now a.list.now a.count.now _ o _
+    E.record_refusal-early.ensures H.if-early-ne0.false
+
+pub copy_list-requires : goal.copy_list-requires
+copy_list-requires c =
+    let B = c.before.before.before.before in
+    let W = B.before.before.before.before in
+    let P = W.before.before.before.before.before.before.before in
+    let H = P.before.before.before.before in
+    let A = accepted H in
+    let E = H.before in
+    let O = E.before in
+    let a = O.args in
+    let l : LentRecord = lent_record a.n a.neighbours.now a.codes.now in
+    let o = ap₂ ◌||◌ O.other_than.ensures
+    (ap₂ ◌||◌ O.other_than-2.ensures O.other_than-3.ensures) in
+    let I = (answered-longer _ _ _ A _ _ _ _ _ P.image_in-told.ensures [] []
+    (P.image_in-told.auto.1.1.0 ∙ part-long _ _ A.upto refl)
+    (P.image_in-told.auto.1.1.1.0 ∙ part-long _ _ A.upto refl)) in (
+      I.room,
+      list-has-room l a.image.now a.signs.now a.list.now a.count.now _ o _
+          E.record_refusal-early.ensures H.if-early-ne0.false _ I,
+    )
+
+pub returns : goal.returns
+returns c =
+    let D = c.before.before.before in
+    let B = D.before.before.before.before in
+    let W = B.before.before.before.before in
+    let Z = W.before.before in
+    let P = Z.before.before.before.before.before in
+    let H = P.before.before.before.before in
+    let A = accepted H in
+    let E = H.before in
+    let O = E.before in
+    let a = O.args in
+    let l : LentRecord = lent_record a.n a.neighbours.now a.codes.now in
+    let o = ap₂ ◌||◌ O.other_than.ensures
+    (ap₂ ◌||◌ O.other_than-2.ensures O.other_than-3.ensures) in
+    image-accepted l a.image.now a.signs.now a.list.now a.count.now _ o _
+    E.record_refusal-early.ensures H.if-early-ne0.false _
+    (answered-longer _ _ _ A _ _ _ _ _ P.image_in-told.ensures _ _
+    (P.image_in-told.auto.1.1.0 ∙ part-long _ _ A.upto refl)
+    (P.image_in-told.auto.1.1.1.0 ∙ part-long _ _ A.upto refl))
+    Z.if-told-ne0.false _ _ _ W.copy_words.ensures B.copy_bytes.ensures D.copy_list.ensures

@@ -1,0 +1,47 @@
+-- `orbit_refusal` meets its contract: the first line that holds; 0 where none does.
+use native.Mathlib.Omega.{arith}
+use Rattle.calls.proofs.AcceptedGraphs.{both-lengths, few-vertices}
+use Rattle.buffers.proofs.Fitting.{first-is}
+use Rattle.buffers.specs.Answers.{here, later, none}
+use Rattle.stabilizer.proofs.EarlyLines.{says}
+use Rattle.call_readings.proofs.orbit_lists.orbit_refusal.Goals as goal
+
+pub returns-then-n : goal.returns-then-n
+returns-then-n c = first-is (here c.if-n.true)
+
+pub returns-then-neighbours-vertices : goal.returns-then-neighbours-vertices
+returns-then-neighbours-vertices c = first-is (later c.if-n.false (here c.if-neighbours-vertices.true))
+
+pub strays-requires : goal.strays-requires
+strays-requires c =
+    let k = few-vertices _ c.if-n.false in
+    (k.0, omega (arith, k.1))
+
+pub returns-then-strays : goal.returns-then-strays
+returns-then-strays c =
+    let past4 = c.before.before.before in
+    first-is (later past4.if-n.false (later past4.if-neighbours-vertices.false
+    (here (says c.strays.ensures c.if-strays.true))))
+
+pub not_simple-requires : goal.not_simple-requires
+not_simple-requires c =
+    let past4 = c.before.before.before in
+    let a = past4.args in
+    let k = few-vertices _ past4.if-n.false in
+    (k.0, omega (arith, k.1), (both-lengths a.n a.neighbours.now a.list.now past4.if-neighbours-vertices.false).0)
+
+pub returns-then-not_simple : goal.returns-then-not_simple
+returns-then-not_simple c =
+    let past5 = c.before.before.before in
+    let past4 = past5.before.before in
+    first-is (later past4.if-n.false (later past4.if-neighbours-vertices.false
+    (later (says past5.strays.ensures past5.if-strays.false)
+    (here (says c.not_simple.ensures c.if-not_simple.true)))))
+
+pub returns : goal.returns
+returns c =
+    let past5 = c.before.before.before in
+    let past4 = past5.before.before in
+    first-is (later past4.if-n.false (later past4.if-neighbours-vertices.false
+    (later (says past5.strays.ensures past5.if-strays.false)
+    (later (says c.not_simple.ensures c.if-not_simple.false) none))))

@@ -1,0 +1,59 @@
+-- `read_record` meets its contract: the record of a text.
+use mathlib.Core.Bool.{◌||◌}
+use mathlib.Core.Path.{◌≡◌, ap₂}
+use borrow.Author.Tests.{not-false, not-true}
+use Rattle.buffers.specs.Refusals.{other_than}
+use Rattle.call_texts.proofs.ReadCalls.{read_done, read-refused, read-room, read-unformed}
+use Rattle.call_texts.proofs.read_record.Goals as goal
+
+abbrev at : goal.After-read_text-read → goal.Start
+at R = R.before.before.before.before.before
+
+abbrev read : goal.After-other_than-2 → goal.After-read_text-read
+read O = O.before.before.before.before.before.before
+
+-- line 4 of the two buffers
+others-are : (O : goal.After-other_than-2) → let a = (at (read O)).args in
+    (O.other_than.result || O.other_than-2.result)
+    ≡ (other_than 64 a.neighbours.now || other_than 64 a.codes.now)
+others-are O = ap₂ ◌||◌ O.other_than.ensures O.other_than-2.ensures
+
+pub returns-then-not-form : goal.returns-then-not-form
+returns-then-not-form c =
+    let R = c.before.before in
+    let a = (at R).args in
+    read-unformed a.text.now a.n.now a.neighbours.now a.codes.now a.used.now R.read_text-read.result
+    R.read_text-read.ensures (not-true _ c.if-not-form.true-raw)
+
+pub returns-then-number-ne0 : goal.returns-then-number-ne0
+returns-then-number-ne0 c =
+    let H = c.before.before in
+    let O = H.before.before.before in
+    let D = O.before.before.before.before in
+    let R = D.before in
+    let a = (at R).args in
+    read-refused a.text.now a.n.now a.neighbours.now a.codes.now a.used.now R.read_text-read.result
+    R.read_text-read.ensures (not-false _ D.if-not-form.false-raw) _ (others-are O) _ H.held_refusal-number.ensures c.if-number-ne0.true
+
+pub take_record-requires : goal.take_record-requires
+take_record-requires c =
+    let E = c.before.before.before.before.before in
+    let H = E.before in
+    let O = H.before.before.before in
+    let D = O.before.before.before.before in
+    let R = D.before in
+    let a = (at R).args in let whole = read-room a.text.now a.n.now a.neighbours.now a.codes.now a.used.now R.read_text-read.result
+    R.read_text-read.ensures (not-false _ D.if-not-form.false-raw) _ (others-are O) _ H.held_refusal-number.ensures E.if-number-ne0.false in record { i_bound = whole.0; n_in_bounds = whole.1 }
+
+pub returns : goal.returns
+returns c =
+    let T = c.before.before.before.before.before in
+    let E = T.before.before.before.before.before in
+    let H = E.before in
+    let O = H.before.before.before in
+    let D = O.before.before.before.before in
+    let R = D.before in
+    let a = (at R).args in
+    read_done a.text.now a.n.now a.neighbours.now a.codes.now a.used.now R.read_text-read.result
+    R.read_text-read.ensures (not-false _ D.if-not-form.false-raw) _ (others-are O) _ H.held_refusal-number.ensures E.if-number-ne0.false
+    T.take_record.ensures.0 T.take_record.ensures.1

@@ -1,0 +1,35 @@
+-- `write_record` meets its contract: the text of a record, and how many bytes it has.
+use Rattle.operations.specs.Used.{UsedRecord, used_record}
+use Rattle.call_texts.proofs.WriteCalls.{write_done, write-refused, write-room}
+use Rattle.call_texts.proofs.write_record.Goals as goal
+
+-- the record that is lent
+abbrev lent : goal.Start → UsedRecord
+lent S = used_record S.args.n S.args.neighbours.now S.args.codes.now S.args.used
+
+abbrev at : goal.After-used_refusal-early → goal.Start
+at E = E.before.before.before.before.before.before
+
+pub returns-then-early-ne0 : goal.returns-then-early-ne0
+returns-then-early-ne0 c =
+    let E = c.before.before in
+    let a = (at E).args in
+    write-refused (lent (at E)) a.text.now a.size.now _ E.other_than-others.ensures _
+    E.used_refusal-early.ensures c.if-early-ne0.true
+
+pub print_record-end-requires : goal.print_record-end-requires
+print_record-end-requires c =
+    let D = c.before.before in
+    let E = D.before in
+    let a = (at E).args in
+    write-room (lent (at E)) a.text.now a.size.now _ E.other_than-others.ensures _
+    E.used_refusal-early.ensures D.if-early-ne0.false
+
+pub returns : goal.returns
+returns c =
+    let P = c.before.before.before in
+    let D = P.before.before in
+    let E = D.before in
+    let a = (at E).args in
+    write_done (lent (at E)) a.text.now a.size.now _ E.other_than-others.ensures _
+    E.used_refusal-early.ensures D.if-early-ne0.false P.print_record-end.ensures

@@ -1,0 +1,10 @@
+-- What the loops of `digit_word` keep.
+use Prim.Native.Nat.{◌-◌}
+use Rattle.clifford_impl.proofs.RowDigits.{DigitsFrom}
+use Rattle.clifford_impl.proofs.rows.digit_word.Given as goal
+
+abbrev pub invariant-loop-q : goal.invariant-loop-q
+invariant-loop-q l = DigitsFrom l.codes l.k l.word l.q
+
+abbrev pub decreases-loop-q : goal.decreases-loop-q
+decreases-loop-q l = l.q

@@ -1,0 +1,26 @@
+-- `induced_image` meets its contract: the image rule on the first record's graph, under the codes that the choice
+-- induces between two records; with room for these codes.
+use mathlib.Core.Path.{sym, ◌∙◌}
+use Rattle.comparison_parts.proofs.InducedRecords.{made-accepted, made-answer}
+use Rattle.comparison_parts.proofs.answer.induced_image.Goals as goal
+
+pub induced_codes-requires : goal.induced_codes-requires
+induced_codes-requires c =
+    let q = (c.requires.accepted_record, (c.requires.choice_len, c.requires.codes)) in
+    let L = c.requires.choice_len in record { first_len = (c.requires.accepted_record.codes-length ∙ sym L.2, L.0 ∙ sym L.2); second_len = L.1 ∙ sym L.2; codes = (c.requires.accepted_record.codes-below, c.requires.codes.0, c.requires.codes.1) }
+
+pub image_answer-requires : goal.image_answer-requires
+image_answer-requires c =
+    let P = c.before.before.before.before in
+    let S = P.before.before.before.before.before.before.before in
+    let a = S.args in
+    made-accepted a.n a.neighbours.now a.codes.now a.choice.now a.codes2.now S.requires.accepted_record
+    a.induced.now _ S.requires.choice_len.2 P.induced-codes.ensures
+
+pub returns : goal.returns
+returns c =
+    let P = c.before.before.before.before.before in
+    let S = P.before.before.before.before.before.before.before in
+    let a = S.args in
+    made-answer a.n a.neighbours.now a.codes.now a.choice.now a.codes2.now S.requires.accepted_record
+    a.induced.now _ S.requires.choice_len.2 P.induced-codes.ensures _ c.image_answer.ensures

@@ -1,0 +1,116 @@
+-- `compare_parts` meets its contract: the least choice that carries the group of the first record onto that of the
+-- second.
+use mathlib.Core.Path.{subst, sym}
+use native.Mathlib.Omega.{arith}
+use lib.ListN.{replicate}
+use borrow.Author.Tests.{not-false, not-true}
+use Rattle.comparison.proofs.NextChoice.{zeros-codes}
+use Rattle.comparison.proofs.TableEnds.{empty-rows}
+use Rattle.record.specs.Graph.{Simple}
+use Rattle.record.specs.NeighbourWords.{graph_in}
+use Rattle.comparison_parts.proofs.Parting.{all-answer, next-component, none-answer, progress_start, progress_step, rest-falls, vertex-in-buffer}
+use Rattle.comparison_parts.specs.internal.Components.{ComponentAnswer, record_held}
+use Rattle.comparison_parts.proofs.compare_parts.Goals as goal
+
+-- src/lib.rt:131:9
+-- src/lib.rt:132:5
+pub loop-rest-init : goal.loop-rest-init
+loop-rest-init c =
+    let S = c.before.before.before.before.before.before in
+    let a = S.args in (
+      progress_start a.n a.neighbours.now a.codes.now a.neighbours2.now a.codes2.now S.requires.1 _
+          c.mask-rest.ensures (replicate 64 0) (zeros-codes 64),
+      empty-rows,
+    )
+
+-- src/lib.rt:133:13
+-- src/lib.rt:134:13
+pub part-component-requires : goal.part-component-requires
+part-component-requires c =
+    let L = c.before.before.before in
+    let S = L.before.before.before.before.before.before in
+    let a = S.args in
+    let F = S.requires.1.first in (
+      (
+        omega (arith, F.neighbours-long, S.requires.1.upto),
+        vertex-in-buffer a.n a.neighbours.now a.codes.now a.neighbours2.now a.codes2.now S.requires.1
+            L.loop-rest.rest L.loop-rest.choice L.loop-rest.invariant.0
+            c.loop-rest-test.true _ c.smallest-q.ensures.0,
+      ),
+      subst (λ m. Simple m (graph_in a.neighbours.now)) (sym F.neighbours-long) F.simple,
+    )
+
+-- src/lib.rt:135:13
+pub compare_component-whole-requires : goal.compare_component-whole-requires
+compare_component-whole-requires c =
+    let P = c.before.before in
+    let Q = P.before in
+    let L = Q.before.before in
+    let S = L.before.before.before.before.before.before in
+    let a = S.args in (
+      S.requires.1,
+      (
+        next-component a.n a.neighbours.now a.codes.now a.neighbours2.now a.codes2.now S.requires.1
+            L.loop-rest.rest L.loop-rest.choice L.loop-rest.invariant.0
+            Q.loop-rest-test.true _ Q.smallest-q.ensures.0 _ P.part-component.ensures,
+        L.loop-rest.invariant.1,
+      ),
+    )
+
+-- src/lib.rt:138:13
+pub returns-then-not-whole : goal.returns-then-not-whole
+returns-then-not-whole c =
+    let I = c.before.before.before.before in
+    let P = I.before.before in
+    let Q = P.before in
+    let L = Q.before.before in
+    let S = L.before.before.before.before.before.before in
+    let a = S.args in
+    none-answer a.n a.neighbours.now a.codes.now a.neighbours2.now a.codes2.now S.requires.1
+    L.loop-rest.rest L.loop-rest.choice L.loop-rest.invariant.0
+    Q.loop-rest-test.true _ Q.smallest-q.ensures.0 _ P.part-component.ensures _
+    (subst (λ f. ComponentAnswer a.n (record_held a.n a.neighbours.now a.codes.now)
+    (record_held a.n a.neighbours2.now a.codes2.now) P.part-component.result L.loop-rest.choice f
+    I.compare_component-whole.result.choice) (not-true _ c.if-not-whole.true)
+    I.compare_component-whole.ensures.component_answer)
+
+-- src/lib.rt:132:5
+pub loop-rest-smaller : goal.loop-rest-smaller
+loop-rest-smaller c =
+    let I = c.before.before.before.before in
+    let P = I.before.before in
+    let Q = P.before in
+    let L = Q.before.before in
+    let S = L.before.before.before.before.before.before in
+    let a = S.args in
+    rest-falls a.n a.neighbours.now a.codes.now a.neighbours2.now a.codes2.now S.requires.1
+    L.loop-rest.rest L.loop-rest.choice L.loop-rest.invariant.0
+    Q.loop-rest-test.true _ Q.smallest-q.ensures.0 _ P.part-component.ensures
+
+-- src/lib.rt:132:5
+pub loop-rest-preserved : goal.loop-rest-preserved
+loop-rest-preserved c =
+    let I = c.before.before.before.before in
+    let P = I.before.before in
+    let Q = P.before in
+    let L = Q.before.before in
+    let S = L.before.before.before.before.before.before in
+    let a = S.args in (
+      progress_step a.n a.neighbours.now a.codes.now a.neighbours2.now a.codes2.now S.requires.1
+          L.loop-rest.rest L.loop-rest.choice L.loop-rest.invariant.0
+          Q.loop-rest-test.true _ Q.smallest-q.ensures.0 _ P.part-component.ensures _
+          (subst (λ f. ComponentAnswer a.n (record_held a.n a.neighbours.now a.codes.now)
+          (record_held a.n a.neighbours2.now a.codes2.now) P.part-component.result L.loop-rest.choice f
+          I.compare_component-whole.result.choice) (not-false _ c.if-not-whole.false)
+          I.compare_component-whole.ensures.component_answer),
+      I.compare_component-whole.ensures.empty_from,
+    )
+
+-- src/lib.rt:118:1
+pub returns : goal.returns
+returns c =
+    let S = c.before.before.before.before.before.before.before.before in
+    let a = S.args in
+    all-answer a.n a.neighbours.now a.codes.now a.neighbours2.now a.codes2.now S.requires.1
+    c.loop-rest.rest c.loop-rest.choice c.loop-rest.invariant.0
+    c.loop-rest-test.false

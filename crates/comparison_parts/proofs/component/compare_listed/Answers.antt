@@ -1,0 +1,69 @@
+-- `compare_listed` meets its contract: the least choice of a part, with room for its two records, by a table
+-- without equations, which it leaves so.
+use mathlib.Core.Path.{ap, sym, ◌∙◌}
+use native.Mathlib.Omega.{arith}
+use lib.ListN.{length}
+use Rattle.comparison_parts.specs.internal.Listed.{part_codes, part_words}
+use Rattle.comparison_parts.proofs.PartBuffers.{first-connected, first-sound, part-answered, second-sound}
+use Rattle.comparison_parts.proofs.component.compare_listed.Goals as goal
+
+-- src/lib.rt:47:5
+pub extract-requires : goal.extract-requires
+extract-requires c =
+    let S = c.before.before.before.before.before.before.before.before.before.before.before in
+    let G = S.requires.numbered_pair in
+    let F = G.pair.first in record { words_len_bound = (G.few, S.requires.numbers_len.0); neighbours_len_bound = (
+        omega (arith, F.neighbours-long, G.pair.upto),
+        F.codes-long ∙ sym F.neighbours-long,
+        λ i l. omega (arith, F.neighbours-long, G.numbers.below i l),
+      ) }
+
+-- src/lib.rt:48:5
+pub extract-requires-2 : goal.extract-requires-2
+extract-requires-2 c =
+    let S = c.before.before.before.before.before.before.before.before.before.before.before.before.before.before.before.before.before.before in
+    let G = S.pre.0 in
+    let F = G.pair.second in record { words_len_bound = (omega (arith, G.few, S.pre.1.0.1), S.pre.1.0.2 ∙ sym S.pre.1.0.1); neighbours_len_bound = (
+        omega (arith, F.neighbours-long, G.pair.upto),
+        F.codes-long ∙ sym F.neighbours-long,
+        λ i l. omega (arith, F.neighbours-long, G.numbers.below i (omega (arith, l, S.pre.1.0.1))),
+      ) }
+
+-- src/lib.rt:49:5
+pub search_records-requires : goal.search_records-requires
+search_records-requires c =
+    let E = c.before.before.before.before.before.before.before.before.before.before in
+    let H = E.before.before.before.before.before.before.before in
+    let S = H.before.before.before.before.before.before.before.before.before.before.before in
+    let a = S.args in
+    let G = S.requires.numbered_pair in
+    let k = length a.words.now in
+    let ew = E.extract2.ensures.0 ∙ ap (λ m. part_words m a.at a.neighbours2.now) S.requires.numbers_len.1 in
+    let en = E.extract2.ensures.1 ∙ ap (λ m. part_codes m a.at a.codes2.now) S.requires.numbers_len.1 in record { n_bound = (
+        S.requires.numbered_pair.few,
+        first-sound a.n a.neighbours.now a.codes.now a.neighbours2.now a.codes2.now
+            a.component k a.at G _ _ _ _ H.extract.ensures.0 H.extract.ensures.1 ew en,
+      ); sound_record = (
+          second-sound a.n a.neighbours.now a.codes.now a.neighbours2.now a.codes2.now a.component
+              k a.at G _ _ _ _ H.extract.ensures.0 H.extract.ensures.1 ew en,
+          first-connected a.n a.neighbours.now a.codes.now a.neighbours2.now a.codes2.now
+              a.component k a.at G _ _ _ _ H.extract.ensures.0 H.extract.ensures.1 ew en,
+        ); empty_from = S.requires.empty_from }
+
+-- src/lib.rt:27:1
+-- src/lib.rt:27:1
+-- src/lib.rt:27:1
+-- src/lib.rt:27:1
+-- src/lib.rt:27:1
+pub returns : goal.returns
+returns c =
+    let E = c.before.before.before.before.before.before.before.before.before.before.before in
+    let H = E.before.before.before.before.before.before.before in
+    let S = H.before.before.before.before.before.before.before.before.before.before.before in
+    let a = S.args in
+    let G = S.requires.numbered_pair in
+    let k = length a.words.now in
+    let ew = E.extract2.ensures.0 ∙ ap (λ m. part_words m a.at a.neighbours2.now) S.requires.numbers_len.1 in
+    let en = E.extract2.ensures.1 ∙ ap (λ m. part_codes m a.at a.codes2.now) S.requires.numbers_len.1 in record { part_answer = part-answered a.n a.neighbours.now a.codes.now a.neighbours2.now a.codes2.now a.component k
+          a.at G _ _ _ _ H.extract.ensures.0 H.extract.ensures.1 ew en
+          _ _ c.search_records.ensures.least_answer; empty_from_2 = c.search_records.ensures.empty_from_2 }

@@ -1,0 +1,37 @@
+-- `placed` meets its contract: the choice with the codes of a part at its vertices.
+use Prim.Native.Nat.{◌-◌, zero-le}
+use native.Mathlib.Omega.{arith}
+use Rattle.comparison_parts.proofs.Placing.{placing-end, placing-start, placing-step}
+use Rattle.comparison_parts.proofs.component.placed.Goals as goal
+
+-- src/lib.rt:61:5
+pub loop-i-init : goal.loop-i-init
+loop-i-init c = (zero-le, placing-start c.args.at c.args.chosen c.args.choice c.well_formed.1.1.1.0.1.0.1)
+
+-- src/lib.rt:62:17
+-- src/lib.rt:62:17
+-- src/lib.rt:63:20
+-- src/lib.rt:63:9
+pub bounds-whole-v : goal.bounds-whole-v
+bounds-whole-v c = c.requires.1 c.loop-i.i c.loop-i-test.true
+
+-- src/lib.rt:64:9
+-- src/lib.rt:61:5
+pub loop-i-smaller : goal.loop-i-smaller
+loop-i-smaller c = omega arith
+
+-- src/lib.rt:61:5
+pub loop-i-preserved : goal.loop-i-preserved
+loop-i-preserved c =
+    let S = c.before.before in (
+      omega arith,
+      placing-step S.args.at S.args.chosen S.args.choice c.loop-i.whole S.args.k
+          c.loop-i.i S.requires.2 S.requires.1 c.loop-i-test.true c.loop-i.invariant.1,
+    )
+
+-- src/lib.rt:53:1
+pub returns : goal.returns
+returns c =
+    let S = c.before.before in
+    placing-end S.args.at S.args.chosen S.args.choice c.loop-i.whole S.args.k c.loop-i.i
+    c.loop-i.invariant.0 c.loop-i-test.false c.loop-i.invariant.1

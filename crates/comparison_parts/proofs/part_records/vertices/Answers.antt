@@ -1,0 +1,66 @@
+-- `vertices` meets its contract.
+use mathlib.Core.Path.{refl, subst, sym}
+use Prim.Native.Nat.{◌<◌}
+use native.Mathlib.Omega.{arith}
+use Rattle.words.proofs.BitLaws.{flip-less}
+use Rattle.comparison_parts.proofs.Listing.{Listing, listing-end, listing_start, listing_step, place-below, place-taken, room}
+use borrow.Author.Rules.{rules}
+use Rattle.comparison_parts.proofs.part_records.vertices.Goals as goal
+
+-- src/lib.rt:28:5
+pub loop-rest-init : goal.loop-rest-init
+loop-rest-init c = listing_start c.args.component _ refl c.ranges.component.fits
+
+-- src/lib.rt:29:13
+-- src/lib.rt:30:9
+-- src/lib.rt:30:9
+pub overflow_cast-at : goal.overflow_cast-at
+overflow_cast-at c = let few = c.smallest-q.ensures.1 in search rules
+
+-- src/lib.rt:30:9
+pub bounds-at-k : goal.bounds-at-k
+bounds-at-k c =
+    let M = c in
+    let L = M.before.before in
+    room L.before.args.component L.loop.at L.loop.k L.loop.rest L.loop.invariant
+    M.before.loop-test.true _ M.smallest.ensures.0
+
+-- src/lib.rt:31:9
+pub overflow_add-k : goal.overflow_add-k
+overflow_add-k c =
+    let L = c.before.before in
+    omega (
+      arith,
+      room L.args.component L.loop-rest.at L.loop-rest.k L.loop-rest.rest L.loop-rest.invariant
+          c.loop-rest-test.true _ c.smallest-q.ensures.0,
+    )
+
+-- src/lib.rt:32:9
+pub flip-rest-requires : goal.flip-rest-requires
+flip-rest-requires c =
+    let M = c in
+    let L = M.before.before in
+    place-below L.before.args.component L.loop.at L.loop.k L.loop.rest L.loop.invariant
+    M.before.loop-test.true _ M.smallest.ensures.0
+
+-- src/lib.rt:28:5
+pub loop-rest-smaller : goal.loop-rest-smaller
+loop-rest-smaller c =
+    let M = c.before in
+    let L = M.before.before in
+    subst (λ v. v < L.loop-rest.rest) (sym c.flip-rest.ensures)
+    (flip-less L.loop-rest.rest _ (place-taken L.args.component L.loop-rest.at L.loop-rest.k L.loop-rest.rest
+    L.loop-rest.invariant M.loop-rest-test.true _ M.smallest-q.ensures.0))
+
+-- src/lib.rt:28:5
+pub loop-rest-preserved : goal.loop-rest-preserved
+loop-rest-preserved c =
+    let M = c.before in
+    let L = M.before.before in
+    subst (Listing L.args.component _ _) (sym c.flip-rest.ensures)
+    (listing_step L.args.component L.loop-rest.at L.loop-rest.k L.loop-rest.rest L.loop-rest.invariant
+    M.loop-rest-test.true _ M.smallest-q.ensures.0)
+
+-- src/lib.rt:21:1
+pub returns : goal.returns
+returns c = listing-end c.args.component _ _ _ c.loop-rest.invariant c.loop-rest-test.false

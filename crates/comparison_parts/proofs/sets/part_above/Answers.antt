@@ -1,0 +1,49 @@
+-- `part_above` meets its contract: whether some part has more than 20 vertices.
+use mathlib.Core.Logic.{⊎_elim}
+use mathlib.Core.Path.{subst, sym, ◌∙◌}
+use Prim.Native.Nat.{◌+◌, ◌-◌}
+use lib.ListN.{length}
+use borrow.Author.Tests.{le-ltb, lt-ltb, not-false}
+use Rattle.record.specs.NeighbourWords.{graph_in}
+use Rattle.comparison.specs.Parts.{part_above}
+use Rattle.stabilizer.proofs.Scanning.{found_at, found_nowhere}
+use Rattle.comparison_parts.proofs.Spreading.{Seen, is_large, large_is, seen-again, seen_more, seen_none}
+use Rattle.comparison_parts.proofs.sets.part_above.Goals as goal
+
+pub loop-q-init : goal.loop-q-init
+loop-q-init c = seen_none _ _
+
+pub returns-then-count-gt20 : goal.returns-then-count-gt20
+unfolding part_above
+returns-then-count-gt20 c =
+    let P = c.before.before.before in
+    let H = P.before.before in
+    let L = H.before.before in
+    let nb = L.args.neighbours.now in
+    let n = length nb in
+    found_at n (is_large n (graph_in nb)) L.loop-q.q H.loop-q-test.true
+    (large_is n (graph_in nb) L.loop-q.q _ _ P.part-component.ensures c.count.ensures.0)
+    (lt-ltb 20 _ c.if-count-gt20.true)
+
+pub loop-q-preserved : goal.loop-q-preserved
+loop-q-preserved c =
+    let H = c.before.before in
+    let L = H.before.before in
+    let S = L.before.before in
+    let nb = S.args.neighbours.now in
+    let n = length nb in
+    let more = H.loop-q-test.true in
+    ⊎_elim
+    (λ w. seen_more n (graph_in nb) L.loop-q.seen L.loop-q.q L.loop-q.invariant more S.requires.simple w.1.result
+    w.2.result _ w.1.ensures w.2.ensures.0 (le-ltb 20 _ w.3.left) w.4)
+    (λ w. subst (λ s. Seen n (graph_in nb) s (L.loop-q.q + 1)) (sym w.1)
+    (seen-again n (graph_in nb) L.loop-q.seen L.loop-q.q L.loop-q.invariant more
+    (sym H.has.ensures ∙ not-false _ w.0.left)))
+    c.if-not-has.branch
+
+pub returns : goal.returns
+unfolding part_above
+returns c =
+    let nb = c.args.neighbours.now in
+    found_nowhere (length nb) (is_large (length nb) (graph_in nb)) c.loop-q.q c.loop-q.invariant.before
+    c.loop-q-test.false

@@ -1,0 +1,38 @@
+-- `spread` meets its contract: the marked vertices and their neighbours.
+use mathlib.Core.Logic.{⊎_elim}
+use mathlib.Core.Path.{◌∙◌, sym}
+use Prim.Native.Nat.{◌-◌, zero-le}
+use native.Mathlib.Omega.{arith}
+use Rattle.comparison_parts.proofs.Spreading.{passed-all, passed-joined, passed-kept, passed_none}
+use Rattle.comparison_parts.proofs.sets.spread.Goals as goal
+
+-- src/lib.rt:22:5
+pub loop-i-init : goal.loop-i-init
+loop-i-init c = (zero-le, passed_none c.args.neighbours.now c.args.marked)
+
+-- src/lib.rt:23:12
+-- src/lib.rt:24:33
+-- src/lib.rt:24:33
+-- src/lib.rt:26:9
+-- src/lib.rt:22:5
+-- src/lib.rt:22:5
+pub loop-i-preserved : goal.loop-i-preserved
+loop-i-preserved c =
+    let L = c.before.before.before.before in
+    let a = L.args in
+    let seen = sym c.has.ensures in (
+      omega arith,
+      ⊎_elim
+          (λ w. passed-joined a.neighbours.now a.marked L.loop-i.reached L.loop-i.i _ L.loop-i.invariant.1
+          (seen ∙ w.0.taken) w.2)
+          (λ w. passed-kept a.neighbours.now a.marked L.loop-i.reached L.loop-i.i _ L.loop-i.invariant.1
+          (seen ∙ w.0.left) w.1)
+          c.if-has.branch,
+    )
+
+-- src/lib.rt:15:1
+pub returns : goal.returns
+returns c =
+    passed-all c.args.neighbours.now c.args.marked
+    c.loop-i.reached c.loop-i.i c.loop-i.invariant.0 c.loop-i-test.false
+    c.loop-i.invariant.1

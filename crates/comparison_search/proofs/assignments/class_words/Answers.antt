@@ -1,0 +1,28 @@
+-- `class_words` meets its contract: the words of the classes of a choice.
+use Prim.Native.Nat.{◌-◌}
+use native.Mathlib.Omega.{arith}
+use Rattle.comparison.proofs.PlacedFours.{class-next, no-class-words}
+use Rattle.comparison.proofs.WordsByBits.{all-classes}
+use Rattle.comparison_search.proofs.assignments.class_words.Goals as goal
+
+pub loop-q-init : goal.loop-q-init
+loop-q-init c = no-class-words _ _
+
+pub class_bits-four-requires : goal.class_bits-four-requires
+class_bits-four-requires c = omega (arith, c.requires.1 c.loop-q.q)
+
+pub place-next-requires : goal.place-next-requires
+place-next-requires c = omega (arith, c.requires.0, c.loop-q-test.true)
+
+pub loop-q-preserved : goal.loop-q-preserved
+loop-q-preserved c =
+    let s = c.before.before.before.before in
+    let l = c.loop-q in
+    let more = c.loop-q-test.true in
+    class-next s.args.n s.args.choice l.q l.words c.place-next.result more c.class_bits-four.result
+    c.place-next.ensures c.class_bits-four.ensures l.invariant
+
+pub returns : goal.returns
+returns c =
+    let l = c.loop-q in
+    all-classes _ _ l.q _ _ _ _ l.invariant c.loop-q-test.false

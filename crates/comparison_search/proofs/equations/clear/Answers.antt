@@ -1,0 +1,68 @@
+-- `clear` meets its contract: equation i added to those after it, up to an end, that have unknown i.
+use mathlib.Core.List.{[]}
+use mathlib.Core.Logic.{⊎_elim}
+use mathlib.Core.Path.{ap, subst, sym, ◌∙◌}
+use Prim.Native.Nat.{◌+◌, ◌-◌}
+use native.Mathlib.Omega.{arith}
+use lib.ListN.{get_or}
+use borrow.Author.Rules.{rules}
+use Rattle.comparison.specs.internal.Equations.{equation_of, equations_in}
+use Rattle.comparison.proofs.QubitEquations.{row_at, row-set}
+use Rattle.comparison_search.proofs.EquationsRows.{Clearing, clear-added, clear_kept, clear-start}
+use Rattle.comparison_search.proofs.equations.clear.Goals as goal
+
+pub loop-k-init : goal.loop-k-init
+loop-k-init c =
+    let s = c.before in (
+      s.requires.1,
+      s.requires.2,
+      clear-start (equations_in s.args.table.now) s.requires.0 s.args.i _
+          (sym (row_at s.args.table.now s.args.i)),
+    )
+
+pub bounds-table-k : goal.bounds-table-k
+bounds-table-k c = omega (arith, c.loop-k.invariant.1, c.loop-k-test.true)
+
+pub has_unknown-requires : goal.has_unknown-requires
+has_unknown-requires c = c.loop-k.invariant.0
+
+pub bounds-table-k-then-has_unknown : goal.bounds-table-k-then-has_unknown
+bounds-table-k-then-has_unknown c =
+    omega (
+      arith,
+      c.loop-k.invariant.1,
+      c.loop-k-test.true,
+    )
+
+pub overflow_add-k-in-loop-k : goal.overflow_add-k-in-loop-k
+overflow_add-k-in-loop-k c =
+    let few = c.loop-k.invariant.1 in
+    let more = c.loop-k-test.true in
+    search rules
+
+pub loop-k-smaller : goal.loop-k-smaller
+loop-k-smaller c = omega (arith, c.loop-k-test.true)
+
+pub loop-k-preserved : goal.loop-k-preserved
+loop-k-preserved c =
+    let a = c.args in
+    let l = c.loop-k in
+    let more = c.loop-k-test.true in
+    let first = equations_in a.table.now in
+    let p = equation_of (get_or a.table.now a.i []) in
+    let e = equation_of (get_or l.table l.k []) in (
+      l.invariant.0,
+      l.invariant.1,
+      ⊎_elim
+          (λ w. subst (λ t. Clearing first t a.i (l.k + 1) p)
+          (sym (ap equations_in w.2 ∙ row-set l.table l.k w.1.result))
+          (clear-added first (equations_in l.table) a.i l.k p l.invariant.2 (omega (arith, more, l.invariant.1)) e
+          (equation_of w.1.result) (sym (row_at l.table l.k))
+          (sym c.has_unknown.ensures ∙ w.0.taken) w.1.ensures))
+          (λ w. subst (λ t. Clearing first (equations_in t) a.i (l.k + 1) p) (sym w.1)
+          (clear_kept first (equations_in l.table) a.i l.k p l.invariant.2))
+          c.if-has_unknown.branch,
+    )
+
+pub returns : goal.returns
+returns c = c.loop-k.invariant.2.so_far

@@ -1,0 +1,121 @@
+-- `least_choice` meets its contract: the least choice that carries the first group onto the second, by a table
+-- without equations, which it leaves so.
+use mathlib.Core.Bool.{false, true}
+use mathlib.Core.Path.{subst, sym}
+use native.Mathlib.Omega.{arith}
+use borrow.Author.Tests.{not-false, not-true}
+use Rattle.clifford.specs.Vectors.{codes_of}
+use Rattle.comparison.specs.internal.Equations.{equations_in}
+use Rattle.comparison.specs.internal.Searches.{LeastAnswer}
+use Rattle.comparison.specs.internal.Setting.{generators_in, generators_of}
+use Rattle.comparison.proofs.ClassExtension.{classes-extend, classes-send}
+use Rattle.comparison.proofs.Least.{least-answer}
+use Rattle.comparison.proofs.LeastChosen.{chosen-works, none-works}
+use Rattle.comparison.proofs.RecordElements.{framed-proper}
+use Rattle.comparison.proofs.SignExtension.{signs-extend}
+use Rattle.comparison.proofs.TableEnds.{class-ends, sign-ends}
+use Rattle.comparison_search.proofs.least_choice.Goals as goal
+
+pub least_classes-answer-requires : goal.least_classes-answer-requires
+least_classes-answer-requires c =
+    let s = c.before.before.before in
+    let a = s.args in
+    let T = c.class-table in (
+      s.requires.setting.few,
+      T.ensures.triangular,
+      classes-extend a.n (generators_in a.first.now) (generators_in a.second.now) a.frame s.requires.setting
+          (equations_in T.new.0) T.ensures,
+    )
+
+pub wipe-requires : goal.wipe-requires
+wipe-requires c =
+    let s = c.before.before.before.before.before in
+    let a = s.args in
+    let T = c.class-table in (
+      omega (arith, s.requires.setting.few),
+      class-ends a.n (generators_in a.first.now) (generators_in a.second.now) a.frame s.requires.setting
+          (equations_in T.new.0) T.ensures,
+    )
+
+pub returns-then-not-answer : goal.returns-then-not-answer
+returns-then-not-answer c =
+    let s = c.before.before.before.before.before.before.before.before in
+    let a = s.args in
+    let T = c.class-table in
+    let A = c.least_classes-answer in
+    let none = not-true A.result.found c.if-not-answer.true in (
+      subst (λ b. LeastAnswer a.n (generators_of (generators_in a.first.now))
+          (generators_of (generators_in a.second.now)) b A.result.choice) (sym none)
+          (least-answer a.n (generators_of (generators_in a.first.now))
+          (generators_of (generators_in a.second.now)) s.requires.setting.proper.within
+          (framed-proper a.n (generators_of (generators_in a.second.now)) (codes_of a.frame)
+          s.requires.setting.framed).within false
+          A.result.choice
+          (none-works a.n (generators_in a.first.now) (generators_in a.second.now) a.frame s.requires.setting
+          (equations_in T.new.0) T.ensures A.result.found
+          A.result.choice A.ensures none)),
+      c.wipe.ensures,
+    )
+
+pub sign_table-requires : goal.sign_table-requires
+sign_table-requires c =
+    let s = c.before.before.before.before.before.before.before.before.before.before in
+    let a = s.args in
+    let T = c.class-table in
+    let A = c.least_classes-answer in
+    let C = A.ensures.some (not-false A.result.found c.if-not-answer.false) in record { setting = (s.requires.setting, C.codes, C.bare-codes); sent_up_to_sign = (
+        classes-send a.n (generators_in a.first.now) (generators_in a.second.now) a.frame s.requires.setting
+            (equations_in T.new.0) T.ensures
+            (codes_of A.result.choice) C.chosen.hold,
+        c.wipe.ensures,
+      ) }
+
+pub least_signs-choice-requires : goal.least_signs-choice-requires
+least_signs-choice-requires c =
+    let s = c.before.before.before.before.before.before.before.before.before.before.before.before in
+    let a = s.args in
+    let T = c.class-table in
+    let A = c.least-classes in
+    let C = A.ensures.some (not-false A.result.found c.if1.false) in
+    let U = c.sign-table in (
+      (
+        s.requires.setting.few,
+        U.ensures.0.triangular,
+        signs-extend a.n (generators_in a.first.now) (generators_in a.second.now) a.frame s.requires.setting
+            (codes_of A.result.choice)
+            (equations_in U.new.0) U.ensures
+            (classes-send a.n (generators_in a.first.now) (generators_in a.second.now) a.frame s.requires.setting
+            (equations_in T.new.0) T.ensures
+            (codes_of A.result.choice) C.chosen.hold),
+      ),
+      A.ensures.codes,
+    )
+
+pub wipe-requires-2 : goal.wipe-requires-2
+wipe-requires-2 c =
+    let s = c.before.before.before.before.before.before.before.before.before.before.before.before.before.before in
+    let a = s.args in
+    let A = c.least-classes in
+    let U = c.sign-table in (
+      omega (arith, s.pre.0.few),
+      sign-ends a.n (generators_in a.first.now) (generators_in a.second.now) a.frame s.pre.0
+          (equations_in U.new.0) (codes_of A.result.choice) U.ensures,
+    )
+
+pub returns : goal.returns
+returns c =
+    let s = c.before.before.before.before.before.before.before.before.before.before.before.before.before.before.before in
+    let a = s.args in
+    let T = c.class-table in
+    let A = c.least-classes in
+    let C = A.ensures.some
+    (not-false A.result.found c.if1.false) in
+    let U = c.sign-table in
+    let L = c.least_signs-choice in record { least_answer = least-answer a.n (generators_of (generators_in a.first.now)) (generators_of (generators_in a.second.now))
+          s.pre.0.proper.within
+          (framed-proper a.n (generators_of (generators_in a.second.now)) (codes_of a.frame)
+          s.pre.0.framed).within true
+          L.result
+          (chosen-works a.n (generators_in a.first.now) (generators_in a.second.now) a.frame s.pre.0
+          (equations_in T.last.0) T.ensures
+          A.result.choice C (equations_in U.new.0) U.ensures L.result L.ensures); empty_from_2 = c.wipe-2.ensures }

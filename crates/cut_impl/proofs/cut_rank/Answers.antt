@@ -1,0 +1,68 @@
+-- `cut_rank` meets its contract: the rank modulo 2 of the edges between the sides: a column that is no sum of earlier
+-- ones leaves a remainder, which joins the basis.
+use mathlib.Core.Logic.{⊎_elim}
+use Prim.Native.Nat.{◌-◌}
+use native.Mathlib.Omega.{arith}
+use borrow.Author.Rules.{rules}
+use Rattle.record.specs.NeighbourWords.{graph_in}
+use Rattle.buffers.proofs.Mapping.{zeros}
+use Rattle.cut.specs.Cut.{crossing}
+use Rattle.words.specs.Bits.{bit}
+use Rattle.cut_impl.proofs.Crossings.{crossing-below}
+use Rattle.cut_impl.proofs.Elimination.{all-counted, column-passed, column-stored, in-echelon, place-below, spanning-start}
+use Rattle.cut_impl.proofs.cut_rank.Goals as goal
+
+pub loop-k-init : goal.loop-k-init
+unfolding zeros
+loop-k-init c = spanning-start _ _
+
+pub crossing_column-column-requires : goal.crossing_column-column-requires
+crossing_column-column-requires c =
+    let S = c.before.before.before.before in
+    let k = c.loop-k.k in
+    ((search rules, search rules), λ j. S.requires.simple.symmetric j k)
+
+pub remainder-rest-requires : goal.remainder-rest-requires
+remainder-rest-requires c =
+    let L = c.before.before.before.before in
+    let S = L.before.before in
+    let M = crossing (bit S.args.side) (graph_in S.args.neighbours.now) in
+    in-echelon S.args.n S.requires.n_bound.0 M _ _ _ L.loop-k.invariant
+
+pub bounds-basis-smallest : goal.bounds-basis-smallest
+bounds-basis-smallest c =
+    let R = c.before.before.before in
+    let L = R.before.before.before.before in
+    let S = L.before.before in
+    let M = crossing (bit S.args.side) (graph_in S.args.neighbours.now) in
+    let below = crossing-below S.args.n S.args.side (graph_in S.args.neighbours.now) _ _ S.requires.n_bound.2
+    R.crossing_column-column.ensures in
+    place-below S.args.n S.requires.n_bound.0 M _ _ _ L.loop-k.invariant R.loop-k-test.true _
+    below R.crossing_column-column.ensures _ R.remainder-rest.ensures c.if-rest-ne0.true _
+    c.smallest.ensures.0
+
+pub overflow_add-rank : goal.overflow_add-rank
+overflow_add-rank c = omega (arith, c.loop-k.invariant.few)
+
+pub loop-k-preserved : goal.loop-k-preserved
+loop-k-preserved c =
+    let R = c.before.before in
+    let L = R.before.before.before.before in
+    let S = L.before.before in
+    let M = crossing (bit S.args.side) (graph_in S.args.neighbours.now) in
+    let below = crossing-below S.args.n S.args.side (graph_in S.args.neighbours.now) _ _ S.requires.n_bound.2
+    R.crossing_column-column.ensures in
+    ⊎_elim
+    (λ w. rw (w.2, w.3) (column-stored S.args.n S.requires.n_bound.0 M _ _ _ L.loop-k.invariant
+    R.loop-k-test.true _ below R.crossing_column-column.ensures _
+    R.remainder-rest.ensures w.0.taken _ w.1.ensures.0))
+    (λ w. rw (w.1, w.2) (column-passed S.args.n S.requires.n_bound.0 M _ _ _ L.loop-k.invariant
+    R.loop-k-test.true _ below R.crossing_column-column.ensures _
+    R.remainder-rest.ensures w.0.left))
+    c.if-rest-ne0.branch
+
+pub returns : goal.returns
+returns c =
+    let S = c.before.before.before.before in
+    let M = crossing (bit S.args.side) (graph_in S.args.neighbours.now) in
+    all-counted S.args.n S.requires.n_bound.0 M _ _ _ c.loop-k.invariant c.loop-k-test.false

@@ -1,0 +1,48 @@
+-- `graph_element` meets its contract: the element of a graph's group with these x bits.
+use mathlib.Core.Logic.{⊎_elim}
+use mathlib.Core.Path.{◌∙◌, subst, sym}
+use Prim.Native.Nat.{◌+◌, ◌-◌}
+use native.Mathlib.Omega.{arith}
+use Rattle.expectation_impl.proofs.Elements.{PartElement, element-off, element-on, no-element, whole-element}
+use Rattle.expectation_impl.proofs.graph_element.Goals as goal
+
+pub loop-j-init : goal.loop-j-init
+loop-j-init c = no-element _ _
+
+pub has-requires : goal.has-requires
+has-requires c = omega (arith, c.loop-j-test.true, c.requires.0)
+
+pub offset_bounds-neighbours-j : goal.offset_bounds-neighbours-j
+offset_bounds-neighbours-j c = omega (arith, c.loop-j-test.true, c.requires.0)
+
+pub bounds-neighbours-j : goal.bounds-neighbours-j
+bounds-neighbours-j c = c.loop-j-test.true
+
+pub single-requires : goal.single-requires
+single-requires c =
+    omega (
+      arith,
+      c.loop-j-test.true,
+      c.requires.0,
+    )
+
+pub loop-j-preserved : goal.loop-j-preserved
+loop-j-preserved c =
+    let L = c.loop-j in
+    let S = c.before.before.before.before.before.before in
+    let a = S.args in
+    let test = c.has.ensures in
+    let more = c.loop-j-test.true in
+    ⊎_elim
+    (λ k. subst (PartElement a.neighbours.now a.chosen (L.j + 1)) (sym k.4)
+    (element-on a.neighbours.now a.chosen S.requires.0 S.requires.1 L.j L.element L.invariant more _
+    k.2.ensures _ (sym test ∙ k.0.taken) k.3.ensures))
+    (λ k. subst (PartElement a.neighbours.now a.chosen (L.j + 1)) (sym k.1)
+    (element-off a.neighbours.now a.chosen S.requires.0 S.requires.1 L.j L.element L.invariant more
+    (sym test ∙ k.0.left)))
+    c.if-has.branch
+
+pub returns : goal.returns
+returns c =
+    whole-element _ _ c.loop-j.j c.loop-j.element c.loop-j-test.false
+    c.loop-j.invariant

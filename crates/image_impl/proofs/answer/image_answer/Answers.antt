@@ -1,0 +1,31 @@
+-- `image_answer` meets its contract: the image of the graph under the codes.
+use mathlib.Core.Path.{refl, sym, ◌∙◌}
+use Rattle.buffers.proofs.Parts.{part-long}
+use Rattle.operations.proofs.UnrefusedRecords.{accepted-unrefused}
+use Rattle.image_impl.proofs.Answering.{answered-longer}
+use Rattle.image_impl.proofs.answer.image_answer.Goals as goal
+
+pub slice_bounds-image_in-end : goal.slice_bounds-image_in-end
+slice_bounds-image_in-end c = sym (part-long _ _ c.requires.upto refl)
+
+pub slice_bounds-image_in-end-2 : goal.slice_bounds-image_in-end-2
+slice_bounds-image_in-end-2 c = sym (part-long _ _ c.requires.upto refl)
+
+pub image_in-told-requires : goal.image_in-told-requires
+image_in-told-requires c =
+    let A = c.requires in (
+      accepted-unrefused _ _ _ A,
+      (
+        part-long _ _ A.upto refl ∙ sym A.neighbours-length,
+        part-long _ _ A.upto refl ∙ sym A.neighbours-length,
+        refl,
+      ),
+    )
+
+pub returns : goal.returns
+returns c =
+    let called = c.before.before.before.before in
+    let A = called.requires in
+    answered-longer _ _ _ A _ _ _ _ _ called.image_in-told.ensures _ _
+    (called.image_in-told.auto.1.1.0 ∙ part-long _ _ A.upto refl)
+    (called.image_in-told.auto.1.1.1.0 ∙ part-long _ _ A.upto refl)

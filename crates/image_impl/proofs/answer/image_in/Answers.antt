@@ -1,0 +1,72 @@
+-- `image_in` meets its contract: the image in lent buffers, by the rule on a copy of the record.
+use mathlib.Core.Path.{ap, refl, sym, ◌∙◌}
+use Prim.Native.Nat.{◌<◌, ◌^◌}
+use native.Mathlib.Omega.{arith}
+use lib.ListN.{length}
+use Rattle.image_impl.proofs.TrackedRecords.{tracked-codes}
+use Rattle.operations.proofs.UnrefusedRecords.{copied-unrefused, unrefused-codes, unrefused-long, unrefused-short}
+use Rattle.image_impl.proofs.Answering.{answered, copied-image}
+use Rattle.image_impl.proofs.answer.image_in.Goals as goal
+
+pub copy_record-requires : goal.copy_record-requires
+copy_record-requires c = let s = c.before.before.before.before.before.before.before.before in record { codes_len = unrefused-long _ _ s.requires.unrefused; words_len = (s.requires.words_len.0, s.requires.words_len.1) }
+
+pub begin-requires : goal.begin-requires
+begin-requires c =
+    let copied = c.before.before.before.before.before.before.before.before.before in
+    let s = copied.before.before.before.before.before.before.before.before in
+    unrefused-codes _ _ (copied-unrefused copied.copy-record.ensures s.requires.unrefused)
+
+pub run_rule-end-requires : goal.run_rule-end-requires
+run_rule-end-requires c =
+    let copied = c.before.before.before.before.before.before.before.before.before.before in
+    let s = copied.before.before.before.before.before.before.before.before in (
+      c.begin.ensures.count_value,
+      c.begin.ensures.by_index _ _ (copied-unrefused copied.copy-record.ensures s.requires.unrefused)
+          s.requires.words_len.2,
+    )
+
+pub action_of-left-requires : goal.action_of-left-requires
+action_of-left-requires c =
+    unrefused-codes _ _
+    c.run-rule.ensures.tracking.unrefused
+
+pub sign_bytes-requires : goal.sign_bytes-requires
+sign_bytes-requires c =
+    let U = c.run-rule.ensures.tracking.unrefused in
+    (unrefused-short _ _ U, unrefused-long _ _ U)
+
+pub shape_of-words : goal.shape_of-words
+shape_of-words c =
+    let ran = c.before.before.before.before.before.before.before.before.before.before.before.before.before.before.before.before in
+    let copied = ran.before.before.before.before.before.before.before.before.before.before in
+    let s = copied.before.before.before.before.before.before.before.before in
+    ran.run-rule.ensures.tracking.long ∙ ap length copied.copy-record.ensures.0 ∙ sym s.pre.1.0
+
+pub shape_of-bytes : goal.shape_of-bytes
+shape_of-bytes c =
+    let ran = c.before.before.before.before.before.before.before.before.before.before.before.before.before.before.before.before in
+    let copied = ran.before.before.before.before.before.before.before.before.before.before in
+    let s = copied.before.before.before.before.before.before.before.before in
+    c.sign_bytes.auto.1.1.1.0 ∙ tracked-codes _ _
+    ran.run-rule.ensures.tracking
+    ∙ ap length copied.copy-record.ensures.0 ∙ sym s.pre.1.1
+
+-- words of 64 bits
+b-below : (c : goal.After-action_of-left) → c.action_of-left.result.b < 2 ^ 64
+b-below c = omega arith
+
+sz-below : (c : goal.After-action_of-left) → c.action_of-left.result.sz < 2 ^ 64
+sz-below c = omega arith
+
+pub returns : goal.returns
+returns c =
+    let ran = c.before.before.before.before.before.before.before.before.before.before.before.before.before.before.before.before in
+    let copied = ran.before.before.before.before.before.before.before.before.before.before in
+    let s = copied.before.before.before.before.before.before.before.before in
+    let left = c.before.before.before.before.before.before.before.before in
+    copied-image copied.copy-record.ensures
+    (answered _ _ _ (copied-unrefused copied.copy-record.ensures s.pre.0) ran.begin.result
+    ran.begin.ensures.0 _ ran.run-rule.ensures left.action-of.result left.action-of.ensures
+    (b-below left) (sz-below left) _ c.image_number.ensures refl
+    c.sign_bytes.ensures refl refl)

@@ -1,0 +1,55 @@
+-- `put_number` meets its contract: a decimal number below 10,000.
+use Prim.Native.Nat.{◌+◌, ◌%◌}
+use Prim.Native.Nat.{◌/◌}
+use Rattle.jobs.proofs.ResultLaws.{number-long, number_short}
+use Rattle.text.proofs.HexLaws.{length-decimal}
+use Rattle.buffers.proofs.Writing.{and_then, same-print}
+use Rattle.text.specs.Text.{decimal}
+use lib.ListN.{length-append}
+use mathlib.Core.List.{[], ◌∷◌}
+use native.Mathlib.Omega.{arith}
+use Rattle.jobs_impl.proofs.printing.put_number.Goals as goal
+
+pub returns-then-k-lt100 : goal.returns-then-k-lt100
+returns-then-k-lt100 c =
+    same-print (number_short _ c.if-k-lt100.true)
+    c.put_decimal.ensures
+
+pub put-tens-requires : goal.put-tens-requires
+put-tens-requires c =
+    let hundreds = c.before.before.before in
+    let start = hundreds.before.before.before.before in
+    omega (
+      arith,
+      length-decimal (start.args.k / 100),
+      hundreds.put_decimal-hundreds.ensures.end,
+      hundreds.put_decimal-hundreds.auto,
+      start.requires,
+    )
+
+pub put-requires : goal.put-requires
+put-requires c =
+    let tens = c.before.before.before in
+    let hundreds = tens.before.before.before.before in
+    let start = hundreds.before.before.before.before in
+    omega (
+      arith,
+      length-decimal (start.args.k / 100),
+      hundreds.put_decimal-hundreds.ensures.end,
+      hundreds.put_decimal-hundreds.auto,
+      tens.put-tens.ensures.end,
+      tens.put-tens.auto,
+      start.requires,
+    )
+
+pub returns : goal.returns
+returns c =
+    let tens = c.before.before.before.before.before.before.before in
+    let hundreds = tens.before.before.before.before in
+    let start = hundreds.before.before.before.before in
+    let k = start.args.k in
+    let long = length-decimal (k / 100) in
+    same-print (number-long k hundreds.if-k-lt100.false start.requires.0)
+    (and_then (omega (arith, long, length-append (decimal (k / 100)) ((48 + k / 10 % 10) ∷ []), start.requires))
+    (and_then (omega (arith, long, start.requires)) hundreds.put_decimal-hundreds.ensures tens.put-tens.ensures)
+    c.put.ensures)

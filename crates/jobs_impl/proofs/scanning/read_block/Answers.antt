@@ -1,0 +1,58 @@
+-- `read_block` meets its contract: what is read after a block more.
+use mathlib.Core.Bool.{and-eq-true_iff}
+use mathlib.Core.Logic.{⊎_elim}
+use mathlib.Core.Path.{◌∙◌, ap, refl}
+use Prim.Native.Nat.{◌-◌, ◌<◌, zero-le}
+use native.Mathlib.Omega.{arith}
+use lib.Dec.{ltb}
+use lib.ListN.{set}
+use lib.Seq.{take_all}
+use borrow.Author.Rules.{rules}
+use borrow.Author.Tests.{ltb-true}
+use Rattle.jobs.proofs.OneByte.{feed-kept, feed-stored}
+use Rattle.jobs.specs.internal.Scan.{as_reading, fed, feed}
+use Rattle.text.proofs.Feeding.{fed-more}
+use Rattle.text.specs.internal.Feeding.{fed_bytes}
+use Rattle.jobs_impl.proofs.scanning.read_block.Goals as goal
+
+pub loop-i-init : goal.loop-i-init
+unfolding fed_bytes
+loop-i-init c = (zero-le, refl)
+
+-- the step is one of the first 4,096
+kept-below : (c : goal.After-step_of-step) → c.loop-i.scan.count <
+    4096
+kept-below c =
+    let branch = c.before.before in
+    let row = branch.loop-i.scan.count in
+    ltb-true row 4096
+    ((and-eq-true_iff (ltb row branch.scan_byte-next.result.count) (ltb row 4096)).0 branch.if-row-count.true).1
+
+pub offset_bounds-steps-row : goal.offset_bounds-steps-row
+offset_bounds-steps-row c = omega (arith, kept-below c)
+
+pub bounds-steps-row : goal.bounds-steps-row
+bounds-steps-row c = kept-below c
+
+pub loop-i-smaller : goal.loop-i-smaller
+loop-i-smaller c = omega (arith, c.loop-i-test.true)
+
+pub loop-i-preserved : goal.loop-i-preserved
+loop-i-preserved c =
+    let at_byte = c.before.before in
+    let inside = at_byte.before.before in
+    let l = inside.loop-i in
+    let next = at_byte.scan_byte-next.result in
+    let sofar = as_reading l.scan l.steps in (
+      search rules,
+      fed-more feed _ sofar _ l.i inside.loop-i-test.true l.invariant.1 (as_reading next c.if-row-count.steps)
+          (⊎_elim
+          (λ w. ap (as_reading next) w.2
+          ∙ ap (λ step. as_reading next (set l.steps l.scan.count step)) w.1.ensures
+          ∙ feed-stored sofar _ next at_byte.scan_byte-next.ensures w.0.taken)
+          (λ w. ap (as_reading next) w.1 ∙ feed-kept sofar _ next at_byte.scan_byte-next.ensures w.0.left)
+          c.if-row-count.branch),
+    )
+
+pub returns : goal.returns
+returns c = c.loop-i.invariant.1 ∙ ap (fed _) (take_all _ _ c.loop-i-test.false)

@@ -1,0 +1,16 @@
+-- `job_answer` meets its contract: prints the answer to a job, whose steps stand at the start of the array.
+use mathlib.Core.Path.{refl, sym}
+use Rattle.buffers.proofs.Parts.{part-long}
+use Rattle.jobs_replies.proofs.Starting.{fresh}
+use Rattle.jobs_replies.proofs.answers.job_answer.Goals as goal
+
+pub slice_bounds-print_run-end : goal.slice_bounds-print_run-end
+slice_bounds-print_run-end c = sym (part-long _ _ c.requires.1 refl)
+
+pub slice_bounds-print_run-end-2 : goal.slice_bounds-print_run-end-2
+slice_bounds-print_run-end-2 c = sym (part-long _ _ c.requires.1 refl)
+
+pub print_run-requires : goal.print_run-requires
+print_run-requires c =
+    let S = c.before.before.before.before.before in
+    fresh _ _ _ S.requires.0 S.requires.1 S.requires.2 S.requires.3

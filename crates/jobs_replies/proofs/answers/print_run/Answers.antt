@@ -1,0 +1,42 @@
+-- `print_run` meets its contract: runs the first steps of a job, and prints its answer.
+use mathlib.Core.Path.{◌≡◌}
+use lib.ListN.{length, take}
+use lib.Seq.{length-take-le}
+use native.Mathlib.Omega.{arith}
+use Rattle.jobs_replies.proofs.Starting.{all-printed, record-printable, start-unrefused}
+use Rattle.jobs_replies.proofs.answers.print_run.Goals as goal
+
+-- before the steps ran
+abbrev begun : goal.After-run-used → goal.Start
+begun R = R.before.before.before.before.before.before.before.before.before
+
+all : (S : goal.Start) → length (take S.args.count S.args.steps) ≡ S.args.count
+all S = length-take-le S.args.count S.args.steps (omega (arith, S.requires.few, S.well_formed.1.1.1.0.1))
+
+pub run-used-requires : goal.run-used-requires
+run-used-requires c =
+    let F = c.requires in
+    (F.few, F.kept, start-unrefused _ _ _ _ _ _ F)
+
+pub print_results-at-requires : goal.print_results-at-requires
+print_results-at-requires c =
+    let R = c.before.before.before.before.before.before.before.before.before in
+    let F = (begun R).requires in
+    (F.few, omega (arith, F.kept, R.run.auto.1.1.1.1.1.0), omega (arith, F.room))
+
+pub print_record-requires : goal.print_record-requires
+print_record-requires c =
+    let P = c.before.before.before.before.before in
+    let R = P.before.before.before.before.before.before.before.before.before in
+    let S = begun R in
+    record-printable S.args.n _ _ S.args.count _ (all S) _ _ S.pre _ _ _ _ R.run.ensures _ _
+    P.print-results.ensures
+
+pub returns : goal.returns
+returns c =
+    let Q = c.before.before.before in
+    let P = Q.before.before.before.before.before.before in
+    let R = P.before.before.before.before.before.before.before.before.before in
+    let S = begun R in
+    all-printed S.args.n _ _ S.args.count _ (all S) _ _ S.pre _ _ _ _ R.run.ensures _ _
+    P.print-results.ensures _ _ Q.print_record.ensures

@@ -1,0 +1,42 @@
+-- `run` meets its contract: the first steps, lent to the runner; then the record that is meant.
+use mathlib.Core.Path.{◌≡◌}
+use lib.ListN.{length, take}
+use lib.Seq.{length-take-le}
+use native.Mathlib.Omega.{arith}
+use Rattle.call_run.proofs.LastRecord.{first-ready, last-ready, last-settled}
+use Rattle.operations.specs.Used.{UsedRecord, used_record}
+use Rattle.jobs_replies.proofs.answers.run.Goals as goal
+
+-- the record that is lent
+abbrev lent : goal.Start → UsedRecord
+lent S = used_record S.args.n S.args.neighbours.now S.args.codes.now 0
+
+all : (S : goal.Start) → length (take S.args.count S.args.steps) ≡ S.args.count
+all S = length-take-le S.args.count S.args.steps (omega (arith, S.requires.0, S.well_formed.1.1.1.0.1))
+
+-- after the last step, and before the first
+abbrev ran : tie.After-settle-last-arg3 → goal.After-run_steps-used
+ran c = c.before.before.before.before.before.before.before.before.before
+
+abbrev begun : goal.After-run_steps-used → goal.Start
+begun R = R.before.before.before.before.before.before.before
+
+pub run_steps-used-requires : goal.run_steps-used-requires
+run_steps-used-requires c =
+    let S = c.before.before.before.before.before.before in
+    (S.requires.0, (omega (arith, S.requires.1), first-ready _ (lent S) S.requires.2))
+
+pub settle_last-requires : goal.settle_last-requires
+settle_last-requires c =
+    let R = ran c in
+    let S = begun R in (
+      omega (arith, S.pre.1, R.run-steps.kept.1.1.1.1.1.1.1.0),
+      last-ready (lent S) _ _ (all S) _ _ _ _ _ R.run-steps.ensures (first-ready _ (lent S) S.pre.2),
+    )
+
+pub returns : goal.returns
+returns c =
+    let L = c.before.before.before.before.before in
+    let R = ran L.before in
+    let S = begun R in
+    last-settled (lent S) _ _ (all S) _ _ _ _ _ R.run-steps.ensures _ _ L.settle_last.ensures

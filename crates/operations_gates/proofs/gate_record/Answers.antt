@@ -1,0 +1,35 @@
+-- `gate_record` meets its contract: Gate: code k after the code held at q, and the reduced record.
+use native.Mathlib.Omega.{arith}
+use Rattle.operations.proofs.UnrefusedRecords.{unrefused-codes, unrefused-place, unrefused-short}
+use Rattle.operations_gates.proofs.GatedBuffers.{gated-reduced, gated-unrefused}
+use Rattle.operations_gates.proofs.TouchedRecords.{gate-suspected, gate-watched}
+use Rattle.operations_gates.proofs.gate_record.Goals as goal
+
+pub gate_code-requires : goal.gate_code-requires
+gate_code-requires c =
+    let start = (c.requires.unrefused, (c.requires.q_in_bounds, c.requires.suspected)) in
+    (unrefused-place _ _ c.requires.unrefused _ c.requires.q_in_bounds.0, (unrefused-codes _ _ c.requires.unrefused).1, c.requires.q_in_bounds.1)
+
+pub single-requires : goal.single-requires
+single-requires c =
+    let start = (c.requires.unrefused, (c.requires.q_in_bounds, c.requires.suspected)) in
+    omega (arith, c.requires.q_in_bounds.0, unrefused-short _ _ c.requires.unrefused)
+
+pub settle_all-requires : goal.settle_all-requires
+settle_all-requires c =
+    let at-single = c.before.before in
+    let at-gate = at-single.before.before.before in
+    let begun = at-gate.before.before.before.before in
+    let a = begun.args in
+    let p = (begun.requires.unrefused, (begun.requires.q_in_bounds, begun.requires.suspected)) in
+    let gated = at-gate.gate_code.ensures in
+    let own = at-single.single.ensures in record { unrefused = gated-unrefused _ _ begun.requires.unrefused a.q begun.requires.q_in_bounds.0 a.k _ gated; suspected = gate-suspected _ _ a.q _ _ gated _ a.touched own begun.requires.suspected.0; watched = gate-watched _ _ a.q _ _ gated _ a.touched own begun.requires.q_in_bounds.0 begun.requires.suspected.1 }
+
+pub returns : goal.returns
+returns c =
+    let at-settle = c.before.before.before.before.before in
+    let at-gate = at-settle.before.before.before.before.before.before in
+    let begun = at-gate.before.before.before.before in
+    let a = begun.args in
+    gated-reduced _ _ begun.requires.unrefused a.q begun.requires.q_in_bounds.0 a.k _ at-gate.gate_code.ensures _ _
+    at-settle.settle_all.ensures

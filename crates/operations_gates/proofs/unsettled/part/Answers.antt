@@ -1,0 +1,38 @@
+-- `part` meets its contract: a pivot where the two are joined.
+use native.Mathlib.Omega.{arith}
+use Rattle.operations.proofs.UnrefusedRecords.{unrefused-short}
+use mathlib.Core.Path.{sym, ◌∙◌}
+use Rattle.operations.proofs.Keeping.{pivot-kept}
+use borrow.Author.Rules.{rules}
+use Rattle.operations_gates.proofs.unsettled.part.Goals as goal
+
+pub offset_bounds-neighbours-a : goal.offset_bounds-neighbours-a
+offset_bounds-neighbours-a c = search rules
+
+pub bounds-neighbours-a : goal.bounds-neighbours-a
+bounds-neighbours-a c = search rules
+
+pub has-requires : goal.has-requires
+has-requires c =
+    let start = (c.requires.unrefused, c.requires.a_in_bounds) in
+    omega (arith, c.requires.a_in_bounds.1, unrefused-short _ _ c.requires.unrefused)
+
+pub pivot_record-requires : goal.pivot_record-requires
+pivot_record-requires c =
+    let branch = c.before.before in
+    let start = (c.requires.unrefused, c.requires.a_in_bounds) in record { unrefused = c.requires.unrefused; j_in_bounds = c.requires.a_in_bounds; k_value = sym branch.has.ensures ∙ branch.if-has.true }
+
+pub shape_of-neighbours : goal.shape_of-neighbours
+shape_of-neighbours c = search rules
+
+pub shape_of-codes : goal.shape_of-codes
+shape_of-codes c = search rules
+
+pub returns-then-has : goal.returns-then-has
+returns-then-has c =
+    let begun = c.before.before.before.before.before.before.before.before.before.before.before.before.before in
+    pivot-kept _ _ begun.requires.unrefused _ _ begun.args.a begun.args.b begun.requires.a_in_bounds.0 begun.requires.a_in_bounds.1
+    c.pivot_record.ensures
+
+pub returns-else-has : goal.returns-else-has
+returns-else-has c = search rules

@@ -1,0 +1,35 @@
+-- `complement_record` meets its contract: complements the record at vertex a: 13 before its code, and 6 before those of
+-- its neighbours.
+use mathlib.Core.Path.{subst, sym}
+use Prim.Native.Nat.{◌<◌}
+use lib.Dec.{lit<}
+use Rattle.operations.proofs.UnrefusedRecords.{unrefused-codes, unrefused-place}
+use Rattle.operations_rewriting.proofs.Recoding.{complemented, recoded-all}
+use Rattle.operations_rewriting.proofs.complements.complement_record.Goals as goal
+
+pub bounds-codes-a : goal.bounds-codes-a
+bounds-codes-a c =
+    let start = c.requires in
+    unrefused-place _ _ start.0 _ start.1
+
+pub compose-first-requires : goal.compose-first-requires
+compose-first-requires c =
+    let start = c.requires in
+    (lit< tt, (unrefused-codes _ _ start.0).1 _)
+
+pub bounds-codes-a-2 : goal.bounds-codes-a-2
+bounds-codes-a-2 c =
+    let at-around = c.before.before.before.before.before in
+    let begun = at-around.before.before.before.before.before.before.before in
+    subst (λ m. begun.args.a < m) (sym at-around.complement_around.auto.1.0)
+    (unrefused-place _ _ begun.requires.0 _ begun.requires.1)
+
+pub returns : goal.returns
+returns c =
+    let at-around = c.before.before.before.before.before in
+    let at-compose = at-around.before.before.before in
+    let begun = at-compose.before.before.before.before in
+    let known = at-around.complement_around in
+    complemented _ _ begun.requires.0 begun.args.a begun.requires.1 _ _
+    (recoded-all _ _ begun.requires.0 begun.args.a begun.requires.1 13 6 _ _ at-compose.compose-first.ensures.0
+    at-around.complement_around.ensures.codes_after) known.auto.0 at-around.complement_around.ensures.same_graph

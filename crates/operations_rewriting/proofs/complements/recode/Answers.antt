@@ -1,0 +1,34 @@
+-- `recode` meets its contract: a code before that of vertex a, and another before those of its neighbours.
+use mathlib.Core.Path.{subst, sym}
+use Prim.Native.Nat.{◌<◌}
+use Rattle.operations.proofs.UnrefusedRecords.{unrefused-codes, unrefused-place}
+use Rattle.operations_rewriting.proofs.Recoding.{around-below, recoded-all}
+use Rattle.operations_rewriting.proofs.complements.recode.Goals as goal
+
+pub bounds-codes-a : goal.bounds-codes-a
+bounds-codes-a c =
+    let start = (c.requires.unrefused, c.requires.own_bound) in
+    unrefused-place _ _ c.requires.unrefused.0 _ c.requires.unrefused.1
+
+pub compose-first-requires : goal.compose-first-requires
+compose-first-requires c =
+    let start = (c.requires.unrefused, c.requires.own_bound) in
+    (c.requires.own_bound.0, (unrefused-codes _ _ c.requires.unrefused.0).1 _)
+
+pub put_before-requires : goal.put_before-requires
+put_before-requires c = let start = (c.requires.unrefused, c.requires.own_bound) in record { codes_len_bound = unrefused-codes _ _ c.requires.unrefused.0; word_bound = (around-below _ _ c.requires.unrefused.0 _ c.requires.unrefused.1, c.requires.own_bound.1) }
+
+pub bounds-codes-a-2 : goal.bounds-codes-a-2
+bounds-codes-a-2 c =
+    let at-put = c.before.before.before in
+    let begun = at-put.before.before.before.before.before.before.before in
+    subst (λ m. begun.args.a < m) (sym at-put.put_before.auto.0)
+    (unrefused-place _ _ begun.requires.unrefused.0 _ begun.requires.unrefused.1)
+
+pub returns : goal.returns
+returns c =
+    let at-put = c.before.before.before in
+    let at-compose = at-put.before.before.before in
+    let begun = at-compose.before.before.before.before in
+    recoded-all _ _ begun.requires.unrefused.0 begun.args.a begun.requires.unrefused.1 begun.args.own begun.args.near _ _
+    at-compose.compose-first.ensures.0 at-put.put_before.ensures

@@ -1,0 +1,73 @@
+-- `change` meets its contract: generator g goes into the others that do not commute with the row, which takes its
+-- place.
+use mathlib.Core.Path.{◌∙◌, ap, subst, sym}
+use Prim.Native.Nat.{◌-◌, ◌<◌}
+use native.Mathlib.Omega.{arith}
+use lib.ListN.{length}
+use Rattle.parity.proofs.ChangedLists.{all_changed, none-changed, one-changed, x-long, z-long}
+use Rattle.parity.specs.internal.Lists.{list_in}
+use Rattle.pauli.specs.Pauli.{anticommute}
+use Rattle.stabilizer.specs.Lists.{rows}
+use Rattle.parity_impl.proofs.generators.change.Goals as goal
+
+pub bounds-zs-g : goal.bounds-zs-g
+bounds-zs-g c =
+    let S = c.before.before.before.before.before.before in subst (λ m. S.args.g < m) (sym S.requires.zs_len.0)
+    S.requires.zs_len.2
+
+pub bounds-xs-g : goal.bounds-xs-g
+bounds-xs-g c =
+    let S = c.before.before.before.before.before.before.before in
+    subst (λ m. S.args.g < m) (sym S.requires.zs_len.1) S.requires.zs_len.2
+
+pub loop-j-init : goal.loop-j-init
+loop-j-init c = none-changed _ _ _ _
+
+-- a place of the loop's lists
+z-place : (c : goal.In-loop-j) → c.loop-j.j < length c.loop-j.zs
+z-place c =
+    let S = c.before.before.before.before.before.before.before.before in
+    subst (λ m. c.loop-j.j < m) (sym (z-long _ _ _ _ S.requires.zs_len.0 S.requires.zs_len.1 _ _ _ _
+    c.loop-j.invariant))
+    c.loop-j-test.true
+
+x-place : (c : goal.In-loop-j) → c.loop-j.j < length c.loop-j.xs
+x-place c =
+    let S = c.before.before.before.before.before.before.before.before in
+    subst (λ m. c.loop-j.j < m) (sym (x-long _ _ _ _ S.requires.zs_len.0 S.requires.zs_len.1 _ _ _ _
+    c.loop-j.invariant))
+    c.loop-j-test.true
+
+pub cleared-next-requires : goal.cleared-next-requires
+cleared-next-requires c =
+    let T = c.before.before.before.before in
+    let l = T.before in
+    let S = l.before.before.before.before.before.before.before in
+    let a = S.args in
+    ap (λ p. anticommute 64 p (rows (list_in a.signs.now a.zs.now a.xs.now) a.g))
+    (l.loop-j.invariant.rest l.loop-j.j (omega arith))
+    ∙ S.requires.by_index l.loop-j.j (subst (λ m. l.loop-j.j < m) l.loop-j.invariant.long.signs-length T.loop-j-test.true)
+
+pub loop-j-smaller : goal.loop-j-smaller
+loop-j-smaller c =
+    let T = c.before.before.before.before.before in
+    omega (arith, T.loop-j-test.true, T.loop-j.invariant.long.signs-length)
+
+pub loop-j-preserved : goal.loop-j-preserved
+loop-j-preserved c =
+    let E = c.before in
+    let r = E.cleared-next.result in
+    let T = E.before.before.before.before in
+    let l = T.before in
+    let S = l.before.before.before.before.before.before.before in
+    one-changed _ _ _ _ S.requires.zs_len.0 S.requires.zs_len.1 _ _ _ _ l.loop-j.invariant T.loop-j-test.true
+    r.minus r.z r.x _ c.sign_digit.ensures E.cleared-next.ensures
+
+pub returns : goal.returns
+returns c =
+    let A = c.before in
+    let l = A.before in
+    let S = l.before.before.before.before.before.before.before in
+    all_changed _ _ _ _ S.requires.zs_len.0 S.requires.zs_len.1 _ _ _ _ l.loop-j.invariant A.loop-j-test.false
+    (subst (λ m. S.args.g < m) (sym l.loop-j.invariant.long.signs-length) S.requires.zs_len.2) S.args.minus _
+    c.sign_digit-2.ensures

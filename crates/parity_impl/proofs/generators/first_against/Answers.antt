@@ -1,0 +1,30 @@
+-- `first_against` meets its contract: the first generator that does not commute with the row; n where all do.
+use mathlib.Core.List.{List}
+use mathlib.Core.Bool.{Bool}
+use mathlib.Core.Path.{◌∙◌, sym}
+use Prim.Native.Nat.{◌-◌, ℕ}
+use lib.ListN.{get_or}
+use Rattle.pauli.specs.Pauli.{anticommute, i⁰, row}
+use Rattle.words.proofs.Searching.{first_found, none_found, none_here, none_yet}
+use Rattle.parity_impl.proofs.generators.first_against.Goals as goal
+
+abbrev clashing : List ℕ → List ℕ → ℕ → ℕ → ℕ → Bool
+clashing zs xs z x i = anticommute 64 (row i⁰ (get_or zs i 0) (get_or xs i 0)) (row i⁰ z x)
+
+pub loop-j-init : goal.loop-j-init
+loop-j-init c = none_yet _
+
+pub returns-then-clashes : goal.returns-then-clashes
+returns-then-clashes c =
+    let T = c.before.before.before.before.before in
+    let l = T.before in
+    first_found _ l.loop-j.j l.loop-j.invariant _ T.loop-j-test.true
+    (sym c.clashes.ensures ∙ c.if-clashes.true)
+
+pub loop-j-preserved : goal.loop-j-preserved
+loop-j-preserved c =
+    let l = c.before.before.before.before.before.before in
+    none_here _ l.loop-j.j l.loop-j.invariant (sym c.clashes.ensures ∙ c.if-clashes.false)
+
+pub returns : goal.returns
+returns c = none_found _ c.loop-j.j c.loop-j.invariant _ c.loop-j-test.false

@@ -1,0 +1,73 @@
+-- `measure_in` meets its contract: a row measured that is not determined, by the generators of the record.
+use mathlib.Core.Path.{refl}
+use mathlib.Core.Bool.{false}
+use Rattle.operations.specs.internal.InPlace.{record_in}
+use Rattle.parity.proofs.ReducedLists.{change-ready, reduce-ready, reduced-written, search-ready}
+use Rattle.record.proofs.AcceptedRecords.{accepted-record}
+use Rattle.record.specs.Accepted.{AcceptedRecord}
+use Rattle.record.specs.Lent.{LentRecord}
+use Rattle.parity_impl.proofs.generators.measure_in.Goals as goal
+
+abbrev lent : goal.Start → LentRecord
+lent S = record_in S.args.neighbours.now S.args.codes.now
+
+held : (S : goal.Start) → AcceptedRecord (lent S)
+held S = accepted-record (lent S) false false S.requires.unrefused.no_line
+
+pub expand_into-requires : goal.expand_into-requires
+expand_into-requires c =
+    let S = c.before.before.before.before.before.before.before.before.before.before in
+    let A = held S in record { n_bound = (A.upto, refl, A.codes-length); by_index = (A.codes-below, A.words-below); signs_len = S.requires.signs_len }
+
+-- where the generators are expanded
+abbrev at : goal.After-expand_into → goal.Start
+at E = E.before.before.before.before.before.before.before.before.before.before.before
+
+abbrev of : goal.After-first_against-g → goal.After-expand_into
+of F = F.before.before.before.before.before.before.before.before.before.before
+
+abbrev by : goal.After-change → goal.After-first_against-g
+by C = C.before.before.before.before
+
+pub first_against-g-requires : goal.first_against-g-requires
+first_against-g-requires c =
+    let E = c.before.before.before.before.before.before.before.before.before in
+    let S = at E in
+    let a = S.args in
+    let e = E.expand-into.ensures in
+    search-ready (lent S) (held S) a.z a.x S.pre.1.0.0 S.pre.1.0.1 S.pre.1.1.0 a.bit _ _ _
+    e.0 e.1.0 e.1.1
+
+pub change-requires : goal.change-requires
+change-requires c =
+    let F = c.before.before.before in
+    let E = of F in
+    let S = at E in
+    let a = S.args in
+    let e = E.expand-into.ensures in let whole = change-ready (lent S) (held S) a.z a.x S.pre.1.0.0 S.pre.1.0.1 S.pre.1.1.0 a.bit _ _ _
+    e.0 e.1.0 e.1.1 _ F.first_against-g.ensures in record { zs_len = whole.0; by_index = whole.1 }
+
+pub reduce_list-requires : goal.reduce_list-requires
+reduce_list-requires c =
+    let C = c.before.before.before.before.before.before.before.before.before.before.before in
+    let F = by C in
+    let E = of F in
+    let S = at E in
+    let a = S.args in
+    let e = E.expand-into.ensures in record { reducible = reduce-ready (lent S) (held S) a.z a.x S.pre.1.0.0 S.pre.1.0.1 S.pre.1.1.0 a.bit _ _ _
+          e.0 e.1.0 e.1.1 _ F.first-against.ensures _ _ _ C.change.ensures; neighbours_len = (refl, (held S).codes-length) }
+
+pub returns : goal.returns
+returns c =
+    let R = c.before.before.before.before.before in
+    let C = R.before.before.before.before.before.before.before.before.before.before.before.before in
+    let F = by C in
+    let E = of F in
+    let S = at E in
+    let a = S.args in
+    let e = E.expand-into.ensures in
+    let w = reduced-written (lent S) (held S) a.z a.x S.pre.1.0.0 S.pre.1.0.1 S.pre.1.1.0
+    a.bit
+    _ _ _ e.0 e.1.0 e.1.1 _ F.first-against.ensures _ _ _ C.change.ensures _ _ _ _ _
+    R.reduce_list.ensures.value R.reduce_list.ensures.neighbours_after R.reduce_list.ensures.codes_after in
+    record { neighbours = w.0; numbers = w.1 }

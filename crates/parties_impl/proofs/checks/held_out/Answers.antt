@@ -1,0 +1,62 @@
+-- `held_out` meets its contract: whether a state held in four places has a neighbour outside the word.
+use mathlib.Core.Bool.{◌&&◌, not}
+use mathlib.Core.List.{[]}
+use mathlib.Core.Path.{◌∙◌, ◌≡◌, sym}
+use Prim.Native.Nat.{◌-◌}
+use native.Mathlib.Omega.{arith}
+use lib.Dec.{eqb}
+use Rattle.parties.specs.Masks.{reaches_out}
+use Rattle.store.specs.Places.{is_held, place_at}
+use Rattle.store_impl.proofs.Parts.{part_count}
+use Rattle.words.proofs.Searching.{no-some, none_here, none_yet, some-found}
+use Rattle.words.specs.Bits.{bit}
+use Rattle.parties_impl.proofs.HeldStates.{out-here}
+use Rattle.parties_impl.proofs.checks.held_out.Goals as goal
+
+pub loop-i-init : goal.loop-i-init
+loop-i-init c = (omega arith, none_yet _)
+
+-- TODO gone Need-slice-bounds-reaches-out-end
+-- part-reaches-out-end : tie.Need-slice-bounds-reaches-out-end invariant-loop decreases-loop
+-- part-reaches-out-end c =
+--     let I = c.before in
+--     let S = I.before.before.before.before in
+--     omega (arith, I.loop-test.true, S.requires.1)
+
+pub reaches_out-requires : goal.reaches_out-requires
+reaches_out-requires c =
+    let I = c.before.before.before in
+    let S = I.before.before.before.before in
+    part_count I.loop-i.i 64 S.args.neighbours.now (omega (arith, I.loop-i-test.true, S.requires.neighbours_len))
+
+-- the test at place i
+test-here : (R : goal.After-reaches_out)
+    → (not (eqb R.word_at.result 0) && R.reaches_out.result)
+    ≡ (is_held R.args.heads.now
+    R.loop-i.i
+    && reaches_out (bit R.args.own) (place_at (record {
+      heads = R.args.heads.now;
+      neighbours = R.args.neighbours.now;
+      codes = [];
+    }) R.loop-i.i))
+test-here R =
+    let W = R.before.before.before in
+    let I = W.before in
+    let S = I.before.before.before.before in
+    out-here (bit S.args.own) S.args.heads.now S.args.neighbours.now S.requires.codes_value I.loop-i.i _
+    I.loop-i-test.true W.word_at.ensures _ R.reaches_out.ensures
+
+pub returns-then-word_at-reaches_out : goal.returns-then-word_at-reaches_out
+returns-then-word_at-reaches_out c =
+    let I = c.before.before.before.before.before in
+    some-found _ _ I.loop-i.invariant.1 _ I.loop-i-test.true (sym (test-here c.before.before) ∙ c.if-word_at-reaches_out.true)
+
+pub loop-i-preserved : goal.loop-i-preserved
+loop-i-preserved c =
+    let I = c.before.before.before.before.before in (
+      omega (arith, I.loop-i-test.true),
+      none_here _ _ I.loop-i.invariant.1 (sym (test-here c.before.before) ∙ c.if-word_at-reaches_out.false),
+    )
+
+pub returns : goal.returns
+returns c = no-some _ _ c.loop-i.invariant.1 _ c.loop-i-test.false

@@ -1,0 +1,83 @@
+-- `own_refusal` meets its contract: the first line that holds of the store as a party looks at it.
+use mathlib.Core.Path.{◌∙◌, sym}
+use Rattle.parties.specs.Masks.{in_party}
+use Rattle.store.specs.Places.{Store}
+use Rattle.parties_impl.proofs.OwnNumbers.{own-2, own-4, own-answer, own-none, parts-inside, places-fit}
+use Rattle.parties_impl.proofs.checks.own_refusal.Goals as goal
+
+-- the store that is lent
+abbrev lent : goal.Start → Store
+lent S = record { heads = S.args.heads.now; neighbours = S.args.neighbours.now; codes = S.args.codes.now }
+
+pub returns-then-other_count : goal.returns-then-other_count
+returns-then-other_count c =
+    let C = c.before.before in
+    let S = C.before.before.before.before in
+    own-2 (in_party S.args.word S.args.party) S.args.party (lent S)
+    (sym C.other_count.ensures ∙ c.if-other_count.true)
+
+pub returns-then-wrong_lengths : goal.returns-then-wrong_lengths
+returns-then-wrong_lengths c =
+    let W = c.before.before in
+    let C = W.before.before in
+    let S = C.before.before.before.before in
+    own-4 (in_party S.args.word S.args.party) S.args.party (lent S)
+    (sym C.other_count.ensures ∙ W.if-other_count.false) (sym W.wrong_lengths.ensures ∙ c.if-wrong_lengths.true)
+
+pub returns-then-party-gt1 : goal.returns-then-party-gt1
+returns-then-party-gt1 c =
+    let L = c.before.before in
+    let W = L.before in
+    let C = W.before.before in
+    let S = C.before.before.before.before in
+    own-none (in_party S.args.word S.args.party) S.args.party (lent S)
+    (sym C.other_count.ensures ∙ W.if-other_count.false) (sym W.wrong_lengths.ensures ∙ L.if-wrong_lengths.false)
+    c.if-party-gt1.true
+
+-- TODO gone Need-slice-bounds-places-refusal-end
+-- part-places-refusal-end : tie.Need-slice-bounds-places-refusal-end
+-- part-places-refusal-end c =
+--     let E = c.before in
+--     let L = E.before in
+--     let W = L.before in
+--     let S = W.before.before.before.before.before.before in
+--     (parts-inside S.args.party (lent S) (sym W.wrong-lengths.ensures ∙ L.if2.false) E.if3.false).0
+
+-- TODO gone Need-slice-bounds-places-refusal-end-2
+-- part-places-refusal-end-2 : tie.Need-slice-bounds-places-refusal-end-2
+-- part-places-refusal-end-2 c =
+--     let E = c.before.before in
+--     let L = E.before in
+--     let W = L.before in
+--     let S = W.before.before.before.before.before.before in
+--     (parts-inside S.args.party (lent S) (sym W.wrong-lengths.ensures ∙ L.if2.false) E.if3.false).1
+
+-- TODO gone Need-slice-bounds-places-refusal-end-3
+-- part-places-refusal-end-3 : tie.Need-slice-bounds-places-refusal-end-3
+-- part-places-refusal-end-3 c =
+--     let E = c.before.before.before in
+--     let L = E.before in
+--     let W = L.before in
+--     let S = W.before.before.before.before.before.before in
+--     (parts-inside S.args.party (lent S) (sym W.wrong-lengths.ensures ∙ L.if2.false) E.if3.false).2
+
+pub places_refusal-requires : goal.places_refusal-requires
+places_refusal-requires c =
+    let E = c.before.before.before.before.before in
+    let L = E.before in
+    let W = L.before in
+    let C = W.before.before in
+    let S = C.before.before.before.before in let whole = places-fit S.args.party (lent S) (sym C.other_count.ensures ∙ W.if-other_count.false)
+    (sym W.wrong_lengths.ensures ∙ L.if-wrong_lengths.false) E.if-party-gt1.false in record { codes_value = whole.0; neighbours_len = whole.1 }
+
+pub returns : goal.returns
+returns c =
+    let O = c.before.before.before.before.before in
+    let E = O.before in
+    let L = E.before in
+    let W = L.before in
+    let C = W.before.before in
+    let S = C.before.before.before.before in
+    own-answer S.args.word S.args.party (lent S) (sym C.other_count.ensures ∙ W.if-other_count.false)
+    (sym W.wrong_lengths.ensures ∙ L.if-wrong_lengths.false) E.if-party-gt1.false _ O.own_word.ensures _
+    c.places_refusal.ensures

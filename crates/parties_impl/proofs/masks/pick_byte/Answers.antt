@@ -1,0 +1,14 @@
+-- `pick_byte` meets its contract: one of two bytes, by a bit.
+use mathlib.Core.Bool.{cond}
+use mathlib.Core.Path.{◌∙◌, ap, sym}
+use Rattle.parties_impl.proofs.masks.pick_byte.Goals as goal
+
+pub returns-then-has : goal.returns-then-has
+returns-then-has c =
+    let S = c.before.before in
+    ap (λ b. cond b S.args.a S.args.b) (sym c.if-has.true ∙ c.has.ensures)
+
+pub returns-else-has : goal.returns-else-has
+returns-else-has c =
+    let S = c.before.before in
+    ap (λ b. cond b S.args.a S.args.b) (sym c.if-has.false ∙ c.has.ensures)

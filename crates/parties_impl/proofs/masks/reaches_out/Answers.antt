@@ -1,0 +1,28 @@
+-- `reaches_out` meets its contract: whether some vertex of a record has a neighbour outside a word.
+use Prim.Native.Nat.{◌-◌}
+use native.Mathlib.Omega.{arith}
+use Rattle.parties_impl.proofs.Edges.{out-all, out-here, some-to-none, some-to-one}
+use Rattle.parties_impl.proofs.masks.reaches_out.Goals as goal
+
+pub loop-j-init : goal.loop-j-init
+loop-j-init c = some-to-none 64 _
+
+pub bounds-neighbours-j : goal.bounds-neighbours-j
+bounds-neighbours-j c =
+    let inside = c.before.before in
+    let start = inside.before.before.before.before in
+    omega (arith, inside.loop-j-test.true, start.requires)
+
+pub loop-j-preserved : goal.loop-j-preserved
+loop-j-preserved c =
+    let inside = c.before.before.before in
+    let l = inside.loop-j in
+    let O = inside.before.before in
+    let a = O.args in
+    some-to-one l.j 64 _ l.found _ inside.loop-j-test.true
+    (out-here a.own a.neighbours.now l.j O.others-outside.ensures c.meet-found.ensures) l.invariant
+
+pub returns : goal.returns
+returns c =
+    let a = c.args in
+    out-all a.own a.neighbours.now c.loop-j.invariant c.loop-j-test.false

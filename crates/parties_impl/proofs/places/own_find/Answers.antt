@@ -1,0 +1,19 @@
+-- `own_find` meets its contract: the place, of the party's four, that holds a state under the name.
+use mathlib.Core.Path.{◌∙◌, ap, sym}
+use Prim.Native.Nat.{◌*◌}
+use native.Mathlib.Omega.{arith}
+use Rattle.parties.proofs.OwnHeads.{own-heads-of}
+use Rattle.store.specs.Places.{place_of}
+use Rattle.store_impl.proofs.Parts.{from_place}
+use Rattle.parties_impl.proofs.places.own_find.Goals as goal
+
+-- TODO gone Need-slice-bounds-find-end
+-- part-find-end : tie.Need-slice-bounds-find-end
+-- part-find-end c = omega (arith, c.before.requires.0, c.before.requires.1)
+
+pub returns : goal.returns
+returns c =
+    let S = c.before.before.before.before in
+    let a = S.args in
+    c.find.ensures ∙ ap (λ h. place_of 4 h a.name)
+    (from_place (12 * a.party) 12 a.heads.now ∙ sym (own-heads-of a.party a.heads.now S.requires.1))

@@ -1,0 +1,19 @@
+-- `own_place_for` meets its contract: the place, of the party's four, that a save takes.
+use mathlib.Core.Path.{◌∙◌, ap, sym}
+use Prim.Native.Nat.{◌*◌}
+use native.Mathlib.Omega.{arith}
+use Rattle.parties.proofs.OwnHeads.{own-heads-of}
+use Rattle.store.specs.Kept.{save_place}
+use Rattle.store_impl.proofs.Parts.{from_place}
+use Rattle.parties_impl.proofs.places.own_place_for.Goals as goal
+
+-- TODO gone Need-slice-bounds-place-for-end
+-- part-place-for-end : tie.Need-slice-bounds-place-for-end
+-- part-place-for-end c = omega (arith, c.before.requires.0, c.before.requires.1)
+
+pub returns : goal.returns
+returns c =
+    let S = c.before.before.before.before in
+    let a = S.args in
+    c.place_for.ensures ∙ ap (λ h. save_place 4 h a.name)
+    (from_place (12 * a.party) 12 a.heads.now ∙ sym (own-heads-of a.party a.heads.now S.requires.1))

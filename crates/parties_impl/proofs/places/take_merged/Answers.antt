@@ -1,0 +1,10 @@
+-- `take_merged` meets its contract: a party's vertices as a place of the store has them, put into a record.
+use Rattle.parties_impl.proofs.Moving.{taken_at}
+use Rattle.parties_impl.proofs.places.take_merged.Goals as goal
+
+pub returns : goal.returns
+returns c =
+    let M = c.before.before.before.before.before in
+    let a = M.args in
+    taken_at a.i a.own a.neighbours.now a.codes.now a.held-neighbours.now a.held-codes.now _ _
+    M.merge.ensures.0 M.merge.ensures.1

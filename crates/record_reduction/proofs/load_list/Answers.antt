@@ -1,0 +1,25 @@
+-- `load_list` meets its contract: the rows of a lent list, with a word for their signs.
+use mathlib.Core.Path.{refl}
+use Prim.Native.Nat.{◌-◌}
+use Rattle.record_reduction.proofs.Loading.{load-end, load-start, load_step}
+use Rattle.record_reduction.proofs.load_list.Goals as goal
+
+pub loop-j-init : goal.loop-j-init
+loop-j-init c =
+    let S = c.before.before.before.before in
+    load-start _ _ _ refl S.requires.minuses_value
+
+pub loop-j-preserved : goal.loop-j-preserved
+loop-j-preserved c =
+    let I = c.before.before.before.before.before.before in
+    let L = I.loop-j in
+    let S = I.before.before.before.before.before in
+    load_step _ L.loaded L.minuses L.j L.invariant I.loop-j-test.true S.requires.n_bound.0 _ _ _ refl refl
+    c.flip_where.ensures
+
+pub returns : goal.returns
+returns c =
+    let L = c.loop-j in
+    let S = c.before.before.before.before.before.before in
+    load-end _ L.loaded L.minuses L.j L.invariant c.loop-j-test.false S.requires.n_bound.1 S.requires.n_bound.2
+    S.requires.n_bound.3

@@ -1,0 +1,795 @@
+-- `reduce_tableau` meets its contract: the reduced record of the tableau's group, where its rows are independent: then
+-- it is written, and the answer is true.
+use mathlib.Core.Bool.{◌&&◌, beq, false, not, true}
+use mathlib.Core.List.{List, [], ◌∷◌}
+use mathlib.Core.Logic.{⊎_elim}
+use mathlib.Core.Path.{◌∙◌, ◌≡◌, ap, ap₂, fun_ext, refl, subst, sym}
+use Prim.Native.Nat.{◌+◌, ◌-◌, ◌/◌, ◌<◌, ◌^◌, ◌≤◌, zero-le, ℕ}
+use native.Mathlib.Nat.{le_refl, lt_irrefl, lt_of_lt_of_le}
+use native.Mathlib.Numerals.{add-one}
+use native.Mathlib.Omega.{arith}
+use lib.Bits.{and_mask, bit_and, bit_xor, mask_lt}
+use lib.Count.{ones, count_trailing_zeros}
+use lib.Dec.{eqb, ltb}
+use lib.ListN.{get_or, length, set}
+use borrow.Author.Tests.{not-false, not-true}
+use Rattle.pauli.proofs.PhaseLaws.{minus-real}
+use Rattle.pauli.specs.Pauli.{Pauli, anticommute}
+use Rattle.record.specs.Lent.{code_numbers, neighbour_words}
+use Rattle.record.specs.Reduced.{reduced}
+use Rattle.record_reduction.proofs.Passing.{column-pivoted, column-skipped, eliminated-at, eliminated-loaded, free-row, pivot-ready, same-state}
+use Rattle.record_reduction.proofs.Pivoting.{cleared, cleared-commutes, far-row, from_end, from-small, from_start, from_step, lent-already, lent-commutes, lent-now, pivot-not-named}
+use Rattle.record_reduction.proofs.Relating.{paired-end, paired-start, paired-step, related-loaded}
+use Rattle.record_reduction.proofs.Rotating.{rotate-end, rotate-start, rotate-step}
+use Rattle.record_reduction.specs.internal.Passes.{Eliminated, Loaded, PivotReady}
+use Rattle.record_reduction.specs.internal.Passes.Eliminated.{pivoted, start}
+use Rattle.record_reduction.proofs.Shearing.{alone-commutes, alone-long, alone-sheared, laid_on, next-commutes, next_row, shear-end, shear-start, shear-step, sign-end, sign_kept, sign-step, without_sign}
+use Rattle.record_reduction.specs.internal.Relative.{half_y, relative, relative_row}
+use Rattle.stabilizer.specs.Elimination.{shear}
+use Rattle.stabilizer.specs.Lists.{dependent}
+use Rattle.stabilizer.specs.internal.Elimination.{lend, pivot_on}
+use Rattle.stabilizer.specs.internal.Tableau.{tableau}
+use Rattle.words.proofs.BitLaws.{bit-xor, digit-odd, flip-less, zero_bit}
+use Rattle.words.proofs.Finite.{bits}
+use Rattle.words.proofs.Places.{put_other}
+use Rattle.words.specs.Bits.{Word, bit, digit, is_odd, ◌⊕◌}
+use Rattle.record_reduction.proofs.Rounds.{Both, Stage, both-complete, both-left-over, end-record, end-within, first_round, second-round, stage-loaded, stage-start, stage-turned}
+use Rattle.record_reduction.proofs.reduce_tableau.Goals as goal
+
+-- a bit by shift and mask
+low_bit : (w q : ℕ) → bit_and (w / 2 ^ q) 1 ≡ digit (bit w q)
+unfolding bit
+low_bit w q = and_mask (w / 2 ^ q) 1 ∙ sym (digit-odd (w / 2 ^ q))
+
+-- ---- the places of the code that laws are about
+abbrev AtLoop2 : Type 0
+AtLoop2 = tie.At-loop2 invariant-loop decreases-loop invariant-loop4 decreases-loop4 invariant-loop5 decreases-loop5 invariant-loop3 decreases-loop3 invariant-loop6 decreases-loop6 invariant-loop2
+    decreases-loop2
+
+abbrev InLoop2 : Type 0
+InLoop2 = tie.In-loop2 invariant-loop decreases-loop invariant-loop4 decreases-loop4 invariant-loop5 decreases-loop5 invariant-loop3 decreases-loop3 invariant-loop6 decreases-loop6 invariant-loop2
+    decreases-loop2
+
+abbrev InLoop3 : Type 0
+InLoop3 = tie.In-loop3 invariant-loop decreases-loop invariant-loop4 decreases-loop4 invariant-loop5 decreases-loop5 invariant-loop3 decreases-loop3 invariant-loop6 decreases-loop6 invariant-loop2
+    decreases-loop2
+
+abbrev AfterLoop4 : Type 0
+AfterLoop4 = tie.After-loop4 invariant-loop decreases-loop invariant-loop4 decreases-loop4 invariant-loop5 decreases-loop5 invariant-loop3 decreases-loop3 invariant-loop6 decreases-loop6
+    invariant-loop2
+    decreases-loop2
+
+abbrev Then2 : Type 0
+Then2 = tie.Then2 invariant-loop decreases-loop invariant-loop4 decreases-loop4 invariant-loop5 decreases-loop5 invariant-loop3 decreases-loop3 invariant-loop6 decreases-loop6 invariant-loop2
+    decreases-loop2
+
+abbrev AfterSmallest : Type 0
+AfterSmallest = tie.After-smallest invariant-loop decreases-loop invariant-loop4 decreases-loop4 invariant-loop5 decreases-loop5 invariant-loop3 decreases-loop3 invariant-loop6
+    decreases-loop6
+    invariant-loop2 decreases-loop2
+
+abbrev Then3 : Type 0
+Then3 = tie.Then3 invariant-loop decreases-loop invariant-loop4 decreases-loop4 invariant-loop5 decreases-loop5 invariant-loop3 decreases-loop3 invariant-loop6 decreases-loop6 invariant-loop2
+    decreases-loop2
+
+abbrev AfterFlipWhere2 : Type 0
+AfterFlipWhere2 = tie.After-flip-where2 invariant-loop decreases-loop invariant-loop4 decreases-loop4 invariant-loop5 decreases-loop5 invariant-loop3 decreases-loop3 invariant-loop6
+    decreases-loop6 invariant-loop2 decreases-loop2
+
+abbrev Joined3 : Type 0
+Joined3 = tie.Joined3 invariant-loop decreases-loop invariant-loop4 decreases-loop4 invariant-loop5 decreases-loop5 invariant-loop3 decreases-loop3 invariant-loop6 decreases-loop6 invariant-loop2
+    decreases-loop2
+
+abbrev AfterPutBit : Type 0
+AfterPutBit = tie.After-put-bit invariant-loop decreases-loop invariant-loop4 decreases-loop4 invariant-loop5 decreases-loop5 invariant-loop3 decreases-loop3 invariant-loop6 decreases-loop6
+    invariant-loop2 decreases-loop2
+
+abbrev AfterRowKnown : Type 0
+AfterRowKnown = tie.After-row-known invariant-loop decreases-loop invariant-loop4 decreases-loop4 invariant-loop5 decreases-loop5 invariant-loop3 decreases-loop3 invariant-loop6
+    decreases-loop6
+    invariant-loop2 decreases-loop2
+
+abbrev AfterSmallest2 : Type 0
+AfterSmallest2 = tie.After-smallest2 invariant-loop decreases-loop invariant-loop4 decreases-loop4 invariant-loop5 decreases-loop5 invariant-loop3 decreases-loop3 invariant-loop6
+    decreases-loop6
+    invariant-loop2 decreases-loop2
+
+abbrev AfterWithoutSmallest : Type 0
+AfterWithoutSmallest = tie.After-without-smallest invariant-loop decreases-loop invariant-loop4 decreases-loop4 invariant-loop5 decreases-loop5 invariant-loop3 decreases-loop3
+    invariant-loop6 decreases-loop6 invariant-loop2 decreases-loop2
+
+abbrev AfterLoop5 : Type 0
+AfterLoop5 = tie.After-loop5 invariant-loop decreases-loop invariant-loop4 decreases-loop4 invariant-loop5 decreases-loop5 invariant-loop3 decreases-loop3 invariant-loop6 decreases-loop6
+    invariant-loop2
+    decreases-loop2
+
+abbrev AfterLoop3 : Type 0
+AfterLoop3 = tie.After-loop3 invariant-loop decreases-loop invariant-loop4 decreases-loop4 invariant-loop5 decreases-loop5 invariant-loop3 decreases-loop3 invariant-loop6 decreases-loop6
+    invariant-loop2
+    decreases-loop2
+
+abbrev Then4 : Type 0
+Then4 = tie.Then4 invariant-loop decreases-loop invariant-loop4 decreases-loop4 invariant-loop5 decreases-loop5 invariant-loop3 decreases-loop3 invariant-loop6 decreases-loop6 invariant-loop2
+    decreases-loop2
+
+abbrev AfterLoop2 : Type 0
+AfterLoop2 = tie.After-loop2 invariant-loop decreases-loop invariant-loop4 decreases-loop4 invariant-loop5 decreases-loop5 invariant-loop3 decreases-loop3 invariant-loop6 decreases-loop6
+    invariant-loop2
+    decreases-loop2
+
+-- ---- places and what they have
+abbrev start-2 : AtLoop2 → goal.Start
+start-2 c = c.before.before.before.before.before.before
+
+abbrev start-3 : InLoop3 → goal.Start
+start-3 c = start-2 c.before.before.before
+
+-- the column's turn
+abbrev turn-4 : AfterLoop4 → InLoop3
+turn-4 c = c.before.before.before.before
+
+abbrev turn : Then2 → InLoop3
+turn c = turn-4 c.before
+
+-- the rows at its start, the rows with the bit that are free
+abbrev rows_in : InLoop3 → ℕ → Pauli
+rows_in c = relative (bit c.before.loop3.signs) c.before.loop3.rows
+
+abbrev free_in : Then2 → ℕ
+free_in c = bit_xor c.before.before.loop4.holders (bit_and c.before.before.loop4.holders (turn
+    c).before.loop3.pivots)
+
+-- the rows after row q was lent the bit, by the first of them
+abbrev lent-in : Then2 → ℕ → Pauli
+lent-in c = shear 64 (rows_in (turn c)) (count_trailing_zeros 64 (free_in c))
+    (lend (rows_in (turn c)) (turn c).before.loop3.q)
+
+-- the array with the row that was lent a bit
+abbrev rows-lent : AfterFlipWhere2 → List (List ℕ)
+rows-lent c =
+    let M = c.before.before.before.before.before.before in
+    let L = (turn M.before.before.before).before.loop3 in
+    set L.rows L.q (bit_xor (get_or (get_or L.rows L.q []) 0 0)
+    (get_or (get_or L.rows M.smallest.result []) 0 0)
+    ∷ bit_xor (get_or (get_or L.rows L.q []) 1 0) (get_or (get_or L.rows M.smallest.result []) 1 0) ∷ [])
+
+-- before row q is multiplied into others: its number, the signs with its own laid on, and without
+abbrev column-laid : AfterRowKnown → ℕ
+column-laid c = (turn c.before.before.before.before.before.before.before).before.loop3.q
+
+abbrev signs-laid : AfterRowKnown → ℕ
+signs-laid c = bit_xor c.before.before.before.before.before.if3.signs c.before.where-true.result
+
+abbrev signs-before : AfterRowKnown → Word
+signs-before c = without_sign (signs-laid c) (bit (signs-laid c) (column-laid c))
+    c.before.before.before.put-bit.result
+
+-- ---- the signs made relative
+pub loop-k-init : goal.loop-k-init
+loop-k-init c =
+    let S = c.before.before.before.before in
+    paired-start S.args.rows S.args.signs S.args.n
+
+pub loop-k-preserved : goal.loop-k-preserved
+loop-k-preserved c =
+    let I = c.before.before.before.before in
+    let L = I.loop-k in
+    let S = I.before.before.before.before.before in
+    paired-step S.args.rows S.args.signs S.args.n L.signs L.k L.invariant I.loop-k-test.true
+    c.odd_pairs.ensures c.flip_where-signs.ensures
+
+related : (c : AtLoop2) (j : ℕ)
+    → relative (bit c.before.before.loop.signs) (start-2 c).args.t1 j
+    ≡ tableau (start-2 c).args.signs (start-2 c).args.t1 j
+related c =
+    let S = (start-2 c) in
+    let L = c.before.before.loop in
+    paired-end S.args.t1 S.args.signs S.args.n L.signs L.k L.invariant c.before.loop-test.false
+    S.pre.1
+
+loaded : (c : AtLoop2) → Loaded (start-2 c).args.n (relative (bit c.before.before.loop.signs) (start-2
+    c).args.t1)
+loaded c = related-loaded (start-2 c).args.n (related c) (start-2 c).pre.1
+
+-- ---- the rounds
+pub loop-round-init : goal.loop-round-init
+loop-round-init c =
+    let K = c.before.before in
+    let S = K.before.before.before.before in (
+      stage-start S.args.n K.mask-all.result (relative (bit K.loop-k.signs) S.args.rows) 0,
+      S.well_formed.0.1.0.1,
+    )
+
+loaded2 : (c : InLoop2) → Loaded (start-2 c.before).args.n (relative (bit c.before.loop2.signs)
+    c.before.loop2.rows)
+loaded2 c =
+    let A = c.before in
+    let K = A.before.before in
+    let S = start-2 A in
+    let L = A.loop2 in
+    stage-loaded S.args.n S.pre.0.1 K.before.mask.result K.before.mask.ensures
+    (relative (bit K.loop.signs) S.args.t1) (loaded A) (relative (bit L.signs) L.rows) L.pivots
+    L.hadamards
+    L.round L.invariant.0 c.loop2-test.true
+
+-- ---- a pass
+pub loop-q-init : goal.loop-q-init
+loop-q-init c = (zero-le, c.loop-round.invariant.1, start)
+
+loaded3 : (c : InLoop3) → Loaded (start-3 c).args.n (relative (bit c.before.loop3.signs)
+    c.before.loop3.rows)
+loaded3 c =
+    let I = c.before.before in
+    eliminated-loaded (start-3 c).args.n (start-3 c).pre.0.1 (loaded2 I) c.before.loop3.invariant.2
+
+column : (c : InLoop3) → c.before.loop3.q < 64
+column c = lt_of_lt_of_le c.loop3-test.true (start-3 c).pre.0.1
+
+-- the rows with the x bit
+pub loop-j-init : goal.loop-j-init
+loop-j-init c =
+    let I = c.before.before.before in
+    let S = (start-3 I) in
+    let L = I.loop-q in
+    (le_refl S.args.n, from_start S.args.n (λ i. bit (get_or (get_or L.rows i []) 1 0) L.q))
+
+pub overflow_mul-holders : goal.overflow_mul-holders
+overflow_mul-holders c =
+    let I = c.before.before in
+    let L = I.loop-j in
+    let C = I.before.before.before.before in
+    let S = (start-3 C) in
+    omega (arith, from-small S.args.n _ L.holders L.j L.invariant.1 I.loop-j-test.true S.pre.0.1)
+
+pub overflow_add-holders : goal.overflow_add-holders
+overflow_add-holders c =
+    let I = c.before.before in
+    let L = I.loop-j in
+    let C = I.before.before.before.before in
+    let S = (start-3 C) in
+    omega (
+      arith,
+      from-small S.args.n _ L.holders L.j L.invariant.1 I.loop-j-test.true S.pre.0.1,
+      mask_lt (get_or (get_or C.loop-q.rows (L.j - 1) []) 1 0 / 2 ^ C.loop-q.q) 1,
+    )
+
+pub loop-j-preserved : goal.loop-j-preserved
+loop-j-preserved c =
+    let I = c.before.before in
+    let L = I.loop-j in
+    let C = I.before.before.before.before in
+    let S = (start-3 C) in
+    let q = C.loop-q.q in (
+      omega arith,
+      from_step S.args.n (λ i. bit (get_or (get_or C.loop-q.rows i []) 1 0) q) L.holders L.j
+          L.invariant.1
+          I.loop-j-test.true _ (low_bit _ q),
+    )
+
+holders : (c : AfterLoop4) (j : ℕ) → bit c.before.loop4.holders j
+    ≡ (ltb j (start-3 (turn-4 c)).args.n && bit (get_or (get_or (turn-4 c).before.loop3.rows j []) 1 0) (turn-4
+    c).before.loop3.q)
+holders c =
+    let C = (turn-4 c) in
+    let L = c.before.loop4 in
+    from_end (start-3 C).args.n (λ i. bit (get_or (get_or C.before.loop3.rows i []) 1 0) C.before.loop3.q)
+    L.holders L.j
+    L.invariant.1 (omega (arith, c.loop4-test.false))
+
+-- row i, free, may lend its bit
+ready : (c : Then2) (i : ℕ) → i ≡ count_trailing_zeros 64 (free_in c)
+    → PivotReady (rows_in (turn c)) (turn c).before.loop3.q i c.before.before.loop4.holders
+ready c i e =
+    let C = (turn c) in
+    let S = (start-3 C) in
+    let L = C.before.loop3 in
+    pivot-ready S.args.n L.q S.pre.0.1 C.loop3-test.taken (rows_in C) (loaded3 C)
+    c.before.before.loop4.holders
+    L.pivots _ (holders c.before) refl i
+    (free-row S.args.n L.q S.pre.0.1 C.loop3-test.taken (rows_in C) (loaded3 C)
+    c.before.before.loop4.holders
+    L.pivots _ (holders c.before) refl c.if2.true i e)
+    (λ j. minus-real (bit L.signs j ⊕ half_y (get_or (get_or L.rows j []) 0 0) (get_or (get_or L.rows j []) 1 0)))
+
+lender : (c : AfterSmallest) → c.smallest.result < 64
+lender c = (ready c.before.before.before c.smallest.result c.smallest.ensures.0).lender
+
+pub offset_bounds-rows-i : goal.offset_bounds-rows-i
+offset_bounds-rows-i c = omega (arith, lender c)
+
+pub bounds-rows-i : goal.bounds-rows-i
+bounds-rows-i c = omega (arith, lender c)
+
+pub has-requires-then-not-has-2 : goal.has-requires-then-not-has-2
+has-requires-then-not-has-2 c = lender c.before.before.before.before.before
+
+lacks : (c : Then3) → bit c.before.before.before.before.loop4.holders
+    (turn c.before.before).before.loop3.q ≡
+    false
+lacks c = sym c.before.has2.ensures ∙ not-true _ c.if3.true
+
+lending : (c : AfterSmallest) (k : ℕ) → bit (2 ^ (turn c.before.before.before).before.loop3.q) k ≡ true
+    → anticommute 64 ((rows_in (turn c.before.before.before)) k) ((rows_in (turn c.before.before.before))
+    c.smallest.result) ≡ false
+lending c =
+    let D = c.before.before.before in
+    let C = (turn D) in
+    lent-commutes (rows_in C) C.before.loop3.q c.smallest.result D.before.before.loop4.holders
+    (ready D c.smallest.result c.smallest.ensures.0) (lacks c.before) (2 ^ C.before.loop3.q) refl
+
+pub minus_word-requires : goal.minus_word-requires
+minus_word-requires c =
+    let M = c.before.before.before in
+    let C = (turn M.before.before.before) in
+    let L = C.before.loop3 in
+    alone-commutes L.rows L.signs M.smallest-i.result L.q L.inv.1 (column C) (lending M)
+
+-- row q with the bit that it was lent
+lent-long : (c : AfterFlipWhere2) → length (rows-lent c) ≡ 64
+lent-long c =
+    let H = c.before in
+    let O = H.before in
+    let W = O.before in
+    let M = W.before.before.before in
+    let C = (turn M.before.before.before) in
+    let L = C.before.loop3 in
+    alone-long L.rows L.signs M.smallest.result L.q L.inv.1 (column C) (lending M) _
+    c.flip-where2.result H.has3.result (is_odd (ones W.minus-word.result)) H.has3.ensures
+    W.minus-word.ensures
+    refl (λ k. c.flip-where2.ensures k
+    ∙ ap (λ v. bit L.signs k ⊕ (eqb k L.q && not (beq H.has3.result v))) O.odd.ensures)
+
+lent_row : (c : AfterFlipWhere2) (j : ℕ)
+    → relative (bit c.flip-where2.result) (rows-lent c) j
+    ≡ (lent-in c.before.before.before.before.before.before.before.before.before) j
+lent_row c j =
+    let H = c.before in
+    let O = H.before in
+    let W = O.before in
+    let M = W.before.before.before in
+    let C = (turn M.before.before.before) in
+    let L = C.before.loop3 in
+    alone-sheared L.rows L.signs M.smallest.result L.q L.inv.1 (column C) (lending M) _
+    c.flip-where2.result H.has3.result (is_odd (ones W.minus-word.result)) H.has3.ensures
+    W.minus-word.ensures
+    refl (λ k. c.flip-where2.ensures k
+    ∙ ap (λ v. bit L.signs k ⊕ (eqb k L.q && not (beq H.has3.result v))) O.odd.ensures) j
+    ∙ lent-now (rows_in C) L.q M.smallest.result M.before.before.before.before.before.loop4.holders
+    (ready M.before.before.before M.smallest.result M.smallest.ensures.0) (lacks M.before) (2 ^ L.q)
+    refl
+    j
+    ∙ ap (λ v. shear 64 (rows_in C) v (lend (rows_in C) L.q) j) M.smallest.ensures.0
+
+-- where the arms meet: row q has the bit, lent or its own
+long : (c : Joined3) → length c.if3.rows ≡ 64
+long c =
+    ⊎_elim (λ w. ap length w.9 ∙ lent-long (record {
+      before = record {
+        before = record {
+          before = record {
+            before = record {
+              before = record {
+                before = record { before = record { before = c.before; if3 = w.0 }; smallest = w.1 };
+                lender = w.2;
+              };
+              row3 = w.3;
+            };
+            minus-word = w.4;
+          };
+          odd = w.5;
+        };
+        has3 = w.6;
+      };
+      flip-where2 = w.7;
+    }))
+    (λ w. ap length w.2 ∙ (turn c.before.before).before.loop3.inv.1) c.if3.branch
+
+lent : (c : Joined3) (j : ℕ) → relative (bit c.if3.signs) c.if3.rows j
+    ≡ (lent-in c.before.before) j
+lent c j =
+    let D = c.before.before in
+    let C = (turn D) in
+    ⊎_elim
+    (λ w. ap₂ (λ m v. relative (bit m) v j) w.8 w.9 ∙ lent_row (record {
+      before = record {
+        before = record {
+          before =
+              record {
+                before = record {
+                  before = record {
+                    before = record {
+                      before = record { before = c.before; if3 = w.0 };
+                      smallest = w.1;
+                    };
+                    lender = w.2;
+                  };
+                  row3 = w.3;
+                };
+                minus-word = w.4;
+              };
+          odd = w.5;
+        };
+        has3 = w.6;
+      };
+      flip-where2 = w.7;
+    })
+    j)
+    (λ w. ap₂ (λ m v. relative (bit m) v j) w.1 w.2
+    ∙ lent-already (rows_in C) C.before.loop3.q (count_trailing_zeros 64 (free_in D)) D.before.before.loop4.holders
+    (ready D _ refl) (sym c.before.has2.ensures ∙ not-false _ w.0.left) j)
+    c.if3.branch
+
+not_named : (c : AfterPutBit) → bit c.put-bit.result (turn c.before.before.before.before).before.loop3.q
+    ≡
+    false
+not_named c =
+    let J = c.before.before in
+    let D = J.before.before in
+    let C = (turn D) in
+    pivot-not-named (rows_in C) C.before.loop3.q (count_trailing_zeros 64 (free_in D)) D.before.before.loop4.holders
+    (ready D _ refl) _ (lent J) c.put-bit.result c.put-bit.ensures
+
+-- the sign of row q is the one that is laid on the rows named
+same_sign : (c : AfterRowKnown) → c.before.before.has4.result ≡ bit (signs-laid c) (column-laid c)
+same_sign c =
+    let P = c.before.before.before in
+    c.before.before.has4.ensures
+    ∙ sym (bit-xor _ c.before.where-true.result (column-laid c)
+    ∙ ap (λ v. bit P.before.before.if3.signs (column-laid c) ⊕ v)
+    (c.before.where-true.ensures (column-laid c) ∙ ap (λ v. c.before.before.has4.result && v) (not_named P))
+    ∙ bits 2 (λ u v. u ⊕ (v && false)) (λ u v. u) tt (bit P.before.before.if3.signs (column-laid c))
+    c.before.before.has4.result)
+
+lent_laid : (c : AfterRowKnown) (j : ℕ) → relative (signs-before c)
+    c.before.before.before.before.before.if3.rows j
+    ≡ (lent-in c.before.before.before.before.before.before.before) j
+lent_laid c j =
+    let P = c.before.before.before in
+    let J = P.before.before in
+    ap (λ b. relative_row b (get_or J.if3.rows j []))
+    (laid_on J.if3.signs (signs-laid c) P.put-bit.result c.before.where-true.result (bit (signs-laid c)
+    (column-laid c))
+    (λ k. c.before.where-true.ensures k ∙ ap (λ v. v && bit P.put-bit.result k) (same_sign c)) refl j)
+    ∙ lent J j
+
+commutes : (c : AfterRowKnown) (j : ℕ) → bit c.before.before.before.put-bit.result j ≡ true
+    → anticommute 64 (relative (signs-before c) c.before.before.before.before.before.if3.rows j) (relative
+    (signs-before c) c.before.before.before.before.before.if3.rows (column-laid c)) ≡ false
+commutes c =
+    let P = c.before.before.before in
+    let J = P.before.before in
+    let D = J.before.before in
+    let C = (turn D) in
+    cleared-commutes (rows_in C) C.before.loop3.q (count_trailing_zeros 64 (free_in D))
+    D.before.before.loop4.holders
+    (ready D _ refl) _ (lent_laid c) P.put-bit.result P.put-bit.ensures
+    (far-row C.before.loop3.rows (bit C.before.loop3.signs) C.before.loop3.q C.before.loop3.inv.1)
+
+named-far : (c : AfterRowKnown) (t : ℕ) → 64 ≤ t → bit c.before.before.before.put-bit.result t ≡ false
+named-far c t l =
+    let P = c.before.before.before in
+    let J = P.before.before in
+    let D = J.before.before in
+    let C = (turn D) in
+    P.put-bit.ensures t
+    ∙ put_other (bit D.before.before.loop4.holders) C.before.loop3.q false t
+    (λ p. lt_irrefl 64 (omega (arith, column C, l, p)))
+    ∙ (ready D _ refl).holds t
+    ∙ far-row C.before.loop3.rows (bit C.before.loop3.signs) C.before.loop3.q C.before.loop3.inv.1
+    t l
+
+-- ---- row q multiplied into the rows named
+pub loop-rest-init : goal.loop-rest-init
+loop-rest-init c =
+    let P = c.before.before.before.before in
+    let J = P.before.before in
+    shear-start J.if-not-has-2.rows (signs-before c) (column-laid c) P.put_bit-rest.result (long J)
+
+next : (c : AfterSmallest2) → (c.smallest2.result < 64) × (bit c.before.before.loop5.rest c.smallest2.result
+    ≡
+    true)
+next c =
+    let L = c.before.before.loop5 in
+    let K = c.before.before.before in
+    let P = K.before.before.before in
+    next_row P.before.before.if3.rows (signs-before K) (column-laid K) P.put-bit.result L.rows
+    (without_sign L.signs (bit (signs-laid K) (column-laid K)) L.rest) L.rest L.invariant (named-far K)
+    c.before.loop5-test.true
+    c.smallest2.ensures.0
+
+pub offset_bounds-rows-i-in-loop-rest : goal.offset_bounds-rows-i-in-loop-rest
+offset_bounds-rows-i-in-loop-rest c = omega (arith, (next c).0)
+
+pub bounds-rows-i-in-loop-rest : goal.bounds-rows-i-in-loop-rest
+bounds-rows-i-in-loop-rest c = omega (arith, (next c).0)
+
+pub minus_word-minus-requires : goal.minus_word-minus-requires
+minus_word-minus-requires c =
+    let N = c.before.before in
+    let L = N.loop-rest in
+    let K = N.before.before.before in
+    let P = K.before.before.before in
+    let J = P.before.before in
+    next-commutes J.if-not-has-2.rows (signs-before K) (column-laid K) P.put_bit-rest.result L.rows
+    (without_sign L.signs (bit (signs-laid K) (column-laid K)) L.rest) L.rest N.smallest-i-in-loop-rest.result L.invariant
+    (next
+    N).1 (next N).0
+    (commutes K)
+
+pub offset_bounds-rows-i-in-loop-rest-2 : goal.offset_bounds-rows-i-in-loop-rest-2
+offset_bounds-rows-i-in-loop-rest-2 c = omega (arith, (next c.before.before.before).0)
+
+pub bounds-rows-i-in-loop-rest-2 : goal.bounds-rows-i-in-loop-rest-2
+bounds-rows-i-in-loop-rest-2 c = omega (arith, (next c.before.before.before).0)
+
+pub flip_odd-signs-requires : goal.flip_odd-signs-requires
+flip_odd-signs-requires c = (next c.before.before.before).0
+
+pub without_smallest-rest-requires : goal.without_smallest-rest-requires
+without_smallest-rest-requires c = c.loop-rest-test.true
+
+pub loop-rest-smaller : goal.loop-rest-smaller
+loop-rest-smaller c =
+    let N = c.before.before.before.before.before in
+    let L = N.loop-rest in
+    subst (λ v. v < L.rest) (sym c.without_smallest-rest.ensures)
+    (flip-less L.rest _ (sym (ap (bit L.rest) N.smallest-i-in-loop-rest.ensures.0) ∙ (next N).1))
+
+fewer : (c : AfterWithoutSmallest) → c.without-smallest.result
+    ≡ bit_xor c.before.before.before.before.before.before.loop5.rest (2 ^
+    c.before.before.before.before.smallest2.result)
+fewer c =
+    let N = c.before.before.before.before in
+    c.without-smallest.ensures ∙ ap (λ k. bit_xor N.before.before.loop5.rest (2 ^ k))
+    (sym N.smallest2.ensures.0)
+
+pub loop-rest-preserved : goal.loop-rest-preserved
+loop-rest-preserved c =
+    let N = c.before.before.before.before.before in
+    let L = N.loop-rest in
+    let K = N.before.before.before in
+    let P = K.before.before.before in
+    let J = P.before.before in
+    let W = c.before.before.before in
+    shear-step J.if-not-has-2.rows (signs-before K) (column-laid K) P.put_bit-rest.result L.rows
+    (without_sign L.signs (bit (signs-laid K) (column-laid K)) L.rest) L.rest N.smallest-i-in-loop-rest.result L.invariant
+    (next
+    N).1 (next N).0
+    (commutes K) _
+    (without_sign c.flip_odd-signs.result (bit (signs-laid K) (column-laid K)) c.without_smallest-rest.result) _
+    (is_odd (ones W.minus_word-minus.result)) W.minus_word-minus.ensures refl
+    (sign-step L.signs c.flip_odd-signs.result L.rest c.without_smallest-rest.result N.smallest-i-in-loop-rest.result
+    (bit (signs-laid K) (column-laid K)) ((signs-before K) (column-laid K)) (is_odd (ones W.minus_word-minus.result))
+    (sign_kept (signs-laid K) (column-laid K) P.put_bit-rest.result (bit (signs-laid K) (column-laid K)) (not_named P))
+    c.flip_odd-signs.ensures (fewer c)) (fewer c)
+
+-- column q has its pivot
+pivot-done : (c : AfterLoop5) (j : ℕ) → relative (bit c.before.loop5.signs) c.before.loop5.rows j
+    ≡ pivot_on 64 (rows_in (turn c.before.before.before.before.before.before.before.before.before)) (turn
+    c.before.before.before.before.before.before.before.before.before).before.loop3.q
+    (count_trailing_zeros 64 (free_in
+    c.before.before.before.before.before.before.before.before.before)) j
+pivot-done c j =
+    let L = c.before.loop5 in
+    let K = c.before.before in
+    let P = K.before.before.before in
+    let J = P.before.before in
+    let D = J.before.before in
+    let C = (turn D) in
+    ap (λ b. relative_row b (get_or L.rows j [])) (sym (sign-end L.signs L.rest
+    (bit (signs-laid K) (column-laid K))
+    c.loop5-test.false j))
+    ∙ shear-end J.if3.rows (signs-before K) (column-laid K) P.put-bit.result L.rows
+    (without_sign L.signs (bit (signs-laid K) (column-laid K)) L.rest) L.rest L.invariant
+    (λ k. ap (λ v. bit v k) c.loop5-test.false ∙ zero_bit k) j
+    ∙ cleared (rows_in C) C.before.loop3.q (count_trailing_zeros 64 (free_in D)) D.before.before.loop4.holders
+    (ready D _ refl) _ (lent_laid K) P.put-bit.result P.put-bit.ensures j
+
+-- ---- the next column
+pub loop-q-preserved : goal.loop-q-preserved
+loop-q-preserved c =
+    let C = c.before.before.before in
+    let S = (start-3 C) in
+    let L = C.loop-q in (
+      omega arith,
+      ⊎_elim (λ w. ap length w.15 ∙ w.11.inv.long)
+          (⊎_elim (λ w. ap length w.5 ∙ L.invariant.1) (λ w. ap length w.2 ∙ L.invariant.1)) c.if-not-has.branch,
+      eliminated-at (sym (add-one L.q))
+          (⊎_elim
+          (λ w. column-pivoted S.args.n L.q S.pre.0.1 C.loop-q-test.true (rows_in C) (loaded3 C)
+          w.1.holders
+          L.pivots _ (holders (record {
+            before = record {
+              before = record { before = c.before.before; if1 = w.0 };
+              loop4 = w.1;
+            };
+            loop4-test = w.2;
+          })) refl _
+          (free-row S.args.n L.q S.pre.0.1 C.loop-q-test.true (rows_in C) (loaded3 C) w.1.holders
+          L.pivots _ (holders (record {
+            before = record {
+              before = record { before = c.before.before; if1 = w.0 };
+              loop4 = w.1;
+            };
+            loop4-test = w.2;
+          })) refl w.3.taken _ refl) _
+          (λ j. ap₂ (λ m v. relative (bit m) v j) w.14 w.15 ∙ pivot-done (record {
+            before = record {
+              before = record {
+                before = record {
+                  before = record {
+                    before = record {
+                      before = record {
+                        before = record {
+                          before = record {
+                            before =
+                                record {
+                                  before = record {
+                                    before = record {
+                                      before = record { before = c.before.before; if1 = w.0 };
+                                      loop4 =
+                                          w.1;
+                                    };
+                                    loop4-test = w.2;
+                                  };
+                                  if2 = w.3;
+                                };
+                            has2 = w.4;
+                          };
+                          if3 = w.5;
+                        };
+                        by = w.6;
+                      };
+                      put-bit = w.7;
+                    };
+                    has4 = w.8;
+                  };
+                  where-true = w.9;
+                };
+                row-known = w.10;
+              };
+              loop5 = w.11;
+            };
+            loop5-test = w.12;
+          }) j) _
+          (λ j. ap (λ v. bit v j) w.16 ∙ w.13.ensures j) _ _ L.invariant.2)
+          (⊎_elim
+          (λ w. same-state w.4 w.6 w.5
+          (column-skipped S.args.n L.q S.pre.0.1 C.loop-q-test.true (rows_in C) (loaded3 C)
+          w.1.holders
+          L.pivots _ (holders (record {
+            before = record {
+              before = record { before = c.before.before; if1 = w.0 };
+              loop4 = w.1;
+            };
+            loop4-test = w.2;
+          })) refl w.3.left _ _ L.invariant.2))
+          (λ w. same-state w.1 w.3 w.2
+          (pivoted L.invariant.2 C.loop-q-test.true (sym c.has.ensures ∙ not-false _ w.0.left))))
+          c.if-not-has.branch),
+    )
+
+-- ---- the Hadamards
+passed : (c : AfterLoop3) → Eliminated (start-2 c.before.before.before).args.n (relative (bit
+    c.before.before.before.loop2.signs) c.before.before.before.loop2.rows)
+    (bit c.before.before.before.loop2.pivots) (relative (bit c.before.loop3.signs) c.before.loop3.rows)
+    (bit c.before.loop3.pivots) (start-2 c.before.before.before).args.n
+passed c =
+    let L = c.before.loop3 in
+    let done : L.q ≡ (start-2 c.before.before.before).args.n = omega (arith, L.invariant.0, c.loop3-test.false) in
+    eliminated-at done L.invariant.2
+
+pub loop-i-init : goal.loop-i-init
+loop-i-init c =
+    let A = c.before.before.before in
+    rotate-start A.loop-q.rows A.loop-q.signs _ _ A.loop-q.invariant.1
+
+few : (c : Then4) → bit_xor c.before.before.before.before.before.before.before.mask.result
+    c.before.before.loop3.pivots < 2 ^ 64
+few c =
+    let A = c.before.before.before.before in
+    let K = A.before.before in
+    let S = start-2 A in
+    let L = A.loop2 in
+    stage-turned S.args.n S.pre.0.1 K.before.mask.result K.before.mask.ensures
+    (relative (bit K.loop.signs) S.args.t1) (loaded A) (relative (bit L.signs) L.rows) L.pivots
+    L.hadamards
+    L.round L.invariant.0 c.if4.true _ c.before.before.loop3.pivots (passed c.before)
+
+pub loop-i-preserved : goal.loop-i-preserved
+loop-i-preserved c =
+    let I = c.before.before.before.before in
+    let L = I.loop-i in
+    let F = I.before.before in
+    let A = F.before.before in
+    let S = (start-2 A.before.before) in
+    rotate-step A.loop-q.rows A.loop-q.signs S.args.n _ L.rows L.signs L.i L.invariant
+    I.loop-i-test.true
+    S.pre.0.1 (few F) _ _ _ c.odd-minus-in-loop-i.ensures refl c.flip_where-signs-in-loop-i.ensures
+
+-- ---- the next round
+pub loop-round-preserved : goal.loop-round-preserved
+loop-round-preserved c =
+    let A = c.before.before.before.before.before in
+    let K = A.before.before in
+    let S = start-2 A in
+    let L = A.loop-round in
+    let P = c.loop-q in (
+      ⊎_elim
+          (λ w. subst (λ h. Stage S.args.n K.mask-all.result (relative (bit K.loop-k.signs) S.args.t1)
+          (relative (bit c.if-round-eq0.signs) c.if-round-eq0.rows) P.pivots h (L.round + 1)) (sym w.5)
+          (first_round S.args.n S.pre.0.1 K.mask-all.result K.mask-all.ensures
+          (relative (bit K.loop-k.signs) S.args.t1) (loaded A) (relative (bit L.signs) L.rows) L.pivots
+          L.hadamards
+          L.round L.invariant.0 w.0.taken (relative (bit P.signs) P.rows) P.pivots (passed c.before.before) _
+          refl
+          (relative (bit c.if-round-eq0.signs) c.if-round-eq0.rows)
+          (λ j. ap₂ (λ m v. relative (bit m) v j) w.3 w.4
+          ∙ rotate-end P.rows P.signs S.args.n _ w.1.rows w.1.signs w.1.i w.1.inv w.2.left
+          (eliminated-loaded S.args.n S.pre.0.1 (loaded2 c.before.before.before.before)
+          (passed c.before.before)).beyond
+          j)))
+          (λ w. subst (λ h. Stage S.args.n K.mask-all.result (relative (bit K.loop-k.signs) S.args.t1)
+          (relative (bit c.if-round-eq0.signs) c.if-round-eq0.rows) P.pivots h (L.round + 1)) (sym w.3)
+          (second-round S.args.n S.pre.0.1 K.mask-all.result K.mask-all.ensures
+          (relative (bit K.loop-k.signs) S.args.t1) (loaded A) (relative (bit L.signs) L.rows) L.pivots
+          L.hadamards
+          L.round L.invariant.0 c.loop-round-test.true w.0.left
+          (relative (bit c.if-round-eq0.signs)
+          c.if-round-eq0.rows)
+          P.pivots
+          (subst (λ f. Eliminated S.args.n (relative (bit L.signs) L.rows) (bit L.pivots) f
+          (bit P.pivots)
+          S.args.n)
+          (ap₂ (λ m v. relative (bit m) v) (sym w.1) (sym w.2)) (passed c.before.before))))
+          c.if-round-eq0.branch,
+      ⊎_elim (λ w. ap length w.4 ∙ w.1.inv.long) (λ w. ap length w.2 ∙ P.invariant.1) c.if-round-eq0.branch,
+    )
+
+-- ---- the end
+ended : (c : AfterLoop2) → Both (start-2 c.before).args.n c.before.before.before.before.mask.result
+    (relative (bit c.before.before.before.loop.signs) (start-2 c.before).args.t1)
+    (relative (bit c.before.loop2.signs) c.before.loop2.rows) c.before.loop2.pivots
+    c.before.loop2.hadamards
+ended c = let L = c.before.loop2 in
+    L.invariant.0.both (omega (arith, L.invariant.0.upto, c.loop2-test.false))
+
+pub returns-then-pivots-all : goal.returns-then-pivots-all
+returns-then-pivots-all c =
+    let E = c.before.before in
+    let A = E.before in
+    let K = A.before.before in
+    let S = start-2 A in
+    let L = A.loop-round in
+    let bad = both-left-over S.args.n S.pre.0.1 K.mask-all.result K.mask-all.ensures
+    (relative (bit K.loop-k.signs) S.args.t1) (loaded A) L.rows L.signs L.pivots L.hadamards (ended E)
+    c.if-pivots-all.true in
+    (sym (ap not (ap (dependent S.args.n) (sym (fun_ext (related A))) ∙ bad)), (refl, refl))
+
+pub write_record-requires : goal.write_record-requires
+write_record-requires c =
+    let F = c.before.before in
+    let E = F.before in
+    let A = E.before in
+    let K = A.before.before in
+    let S = start-2 A in
+    let L = A.loop-round in record { n_bound = (S.pre.0.1, S.pre.0.2, S.pre.0.3); by_index = λ j _. end-within S.args.n S.pre.0.1 K.mask-all.result K.mask-all.ensures
+          (relative (bit K.loop-k.signs) S.args.t1) (loaded A) L.rows L.signs L.pivots L.hadamards
+          (ended E)
+          F.if-pivots-all.false j }
+
+pub returns : goal.returns
+returns c =
+    let W = c.before.before.before.before.before in
+    let F = W.before.before.before in
+    let E = F.before in
+    let A = E.before in
+    let K = A.before.before in
+    let S = start-2 A in
+    let L = A.loop-round in
+    let good = both-complete S.args.n S.pre.0.1 K.mask-all.result K.mask-all.ensures
+    (relative (bit K.loop-k.signs) S.args.t1) (loaded A) L.rows L.signs L.pivots L.hadamards (ended E)
+    F.if-pivots-all.false in
+    let r = end-record S.args.n S.pre.0.1 K.mask-all.result K.mask-all.ensures
+    (relative (bit K.loop-k.signs) S.args.t1) (loaded A) L.rows L.signs L.pivots L.hadamards (ended E)
+    F.if-pivots-all.false ∙ ap (reduced S.args.n) (fun_ext (related A)) in record { value = sym (ap not (ap (dependent S.args.n) (sym (fun_ext (related A))) ∙ good)); neighbours_after = W.write_record.ensures.neighbours_after ∙ ap (neighbour_words S.args.n) r; codes_after = W.write_record.ensures.codes_after ∙ ap (code_numbers S.args.n) r }

@@ -1,0 +1,39 @@
+-- `held_number` meets its contract: the number of the record in the first n of 64 places.
+use mathlib.Core.Path.{sym}
+use lib.ListN.{take}
+use Rattle.buffers.proofs.Parts.{part-long}
+use Rattle.operations.specs.Used.{UsedRecord}
+use Rattle.operations_checks.proofs.UsedNumbers.{no-further}
+use Rattle.store.proofs.StoreNumbers.{free-number, held-place-number}
+use Rattle.store_impl.proofs.checks.held_number.Goals as goal
+
+-- the record in the first n places
+abbrev lent : goal.Start → UsedRecord
+lent S =
+    record {
+      held = record {
+        n = S.args.n;
+        neighbours = take S.args.n S.args.neighbours.now;
+        codes = take S.args.n S.args.codes.now;
+      };
+      used = S.args.used;
+    }
+
+pub returns-then-n-eq0 : goal.returns-then-n-eq0
+returns-then-n-eq0 c = let S = c.before.before.before.before in free-number (lent S) c.if-n-eq0.true
+
+pub slice_bounds-used_refusal-end : goal.slice_bounds-used_refusal-end
+slice_bounds-used_refusal-end c =
+    let S = c.before.before.before.before.before in
+    sym (part-long S.args.n S.args.neighbours.now S.requires.0 S.requires.1)
+
+pub slice_bounds-used_refusal-end-2 : goal.slice_bounds-used_refusal-end-2
+slice_bounds-used_refusal-end-2 c =
+    let S = c.before.before.before.before.before.before in
+    sym (part-long S.args.n S.args.codes.now S.requires.0 S.requires.2)
+
+pub returns : goal.returns
+returns c =
+    let D = c.before.before.before.before in
+    let S = D.before.before.before in
+    held-place-number (lent S) D.if1.false (no-further (lent S) _ _ c.used_refusal.ensures)

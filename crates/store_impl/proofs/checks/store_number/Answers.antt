@@ -1,0 +1,84 @@
+-- `store_number` meets its contract: the first number of the records held in the first k places.
+use Prim.Native.Nat.{◌-◌}
+use native.Mathlib.Omega.{arith}
+use Rattle.store.specs.Places.{Store}
+use Rattle.store_impl.proofs.PlaceNumbers.{all-passed, none_passed, place_inside, place-long, place-part, place-passed, place-small}
+use Rattle.store_impl.proofs.checks.store_number.Goals as goal
+
+-- the store that is lent
+abbrev lent : goal.Start → Store
+lent S = record { heads = S.args.heads.now; neighbours = S.args.neighbours.now; codes = S.args.codes.now }
+
+pub loop-i-init : goal.loop-i-init
+loop-i-init c = none_passed _ _
+
+pub overflow_mul-i : goal.overflow_mul-i
+overflow_mul-i c = omega (arith, c.requires.k_bound.0)
+
+pub overflow_mul-i-in-loop-i : goal.overflow_mul-i-in-loop-i
+overflow_mul-i-in-loop-i c = omega (arith, c.requires.k_bound.0)
+
+pub overflow_add-i : goal.overflow_add-i
+overflow_add-i c = omega (arith, c.requires.k_bound.0)
+
+pub overflow_mul-at : goal.overflow_mul-at
+overflow_mul-at c = omega (arith, c.requires.k_bound.0)
+
+pub overflow_add-end : goal.overflow_add-end
+overflow_add-end c = omega (arith, c.requires.k_bound.0)
+
+pub offset_bounds-neighbours-at : goal.offset_bounds-neighbours-at
+offset_bounds-neighbours-at c = omega (arith, c.requires.k_bound.0)
+
+pub slice_bounds-held_number-count : goal.slice_bounds-held_number-count
+slice_bounds-held_number-count c = omega arith
+
+-- TODO gone Need-slice-bounds-held-number-start
+-- part-held-number-start : tie.Need-slice-bounds-held-number-start invariant-loop decreases-loop
+-- part-held-number-start c = omega arith
+
+-- TODO gone Need-slice-bounds-held-number-end
+-- part-held-number-end : tie.Need-slice-bounds-held-number-end invariant-loop decreases-loop
+-- part-held-number-end c =
+--     let S = c.before.before.before.before.before.before.before in
+--     place_inside _ _ S.args.neighbours.now c.before.before.loop-test.true S.requires.1.0
+
+pub slice_bounds-held_number-count-in-loop-i : goal.slice_bounds-held_number-count-in-loop-i
+slice_bounds-held_number-count-in-loop-i c = omega arith
+
+-- TODO gone Need-slice-bounds-held-number-start-2
+-- part-held-number-start-2 : tie.Need-slice-bounds-held-number-start-2 invariant-loop decreases-loop
+-- part-held-number-start-2 c = omega arith
+
+-- TODO gone Need-slice-bounds-held-number-end-2
+-- part-held-number-end-2 : tie.Need-slice-bounds-held-number-end-2 invariant-loop decreases-loop
+-- part-held-number-end-2 c =
+--     let S = c.before.before.before.before.before.before.before.before in
+--     place_inside _ _ S.args.codes.now c.before.before.before.loop-test.true S.requires.1.1
+
+pub held_number-here-requires : goal.held_number-here-requires
+held_number-here-requires c =
+    let W = c.before.before.before.before in
+    let I = W.before in
+    let S = I.before.before.before.before.before in (
+      place-small _ (lent S) S.requires.k_bound.1 _ _ I.loop-i-test.true W.word_at-n.ensures,
+      place-long _ _ S.args.neighbours.now I.loop-i-test.true S.requires.neighbours_len.0,
+      place-long _ _ S.args.codes.now I.loop-i-test.true S.requires.neighbours_len.1,
+    )
+
+pub loop-i-preserved : goal.loop-i-preserved
+loop-i-preserved c =
+    let H = c.before.before in
+    let U = H.before.before.before in
+    let W = U.before in
+    let I = W.before in
+    let S = I.before.before.before.before.before in
+    let i = I.loop-i.i in
+    place-passed _ (lent S) _ _ I.loop-i.invariant _ _ _ _ I.loop-i-test.true
+    (place-small _ (lent S) S.requires.k_bound.1 _ _ I.loop-i-test.true W.word_at-n.ensures)
+    W.word_at-n.ensures U.word_at-used.ensures (place-part i S.args.neighbours.now)
+    (place-part i S.args.codes.now) _ H.held_number-here.ensures _
+    c.earlier-number.ensures
+
+pub returns : goal.returns
+returns c = all-passed _ _ _ _ c.loop-i.invariant c.loop-i-test.false

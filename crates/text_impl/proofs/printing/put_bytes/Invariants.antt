@@ -1,0 +1,14 @@
+-- What the loops of `put_bytes` keep.
+use mathlib.Core.Path.{◌≡◌}
+use Prim.Native.Nat.{◌-◌, ◌≤◌}
+use lib.ListN.{length, take}
+use Rattle.buffers.specs.Writing.{overwritten}
+use Rattle.text_impl.proofs.printing.put_bytes.Given as goal
+
+abbrev pub invariant-loop-i : goal.invariant-loop-i
+invariant-loop-i l =
+    (l.i ≤ length l.bytes) × (l.out ≡ overwritten l.initial.out l.at (take l.i l.bytes))
+    × (length l.out ≡ length l.initial.out)
+
+abbrev pub decreases-loop-i : goal.decreases-loop-i
+decreases-loop-i l = length l.bytes - l.i

@@ -1,0 +1,41 @@
+-- `print_reduced` meets its contract: reduces a list and prints its record, or the refusal's number.
+use native.Mathlib.Omega.{arith}
+use Rattle.stabilizer.specs.Lists.{GeneratorList}
+use Rattle.text_replies.proofs.Answering.{number_small, printable, record-printed, refused-printed}
+use Rattle.buffers.proofs.Writing.{same-print}
+use Rattle.text_replies.proofs.print_reduced.Goals as goal
+
+pub print_refusal-requires : goal.print_refusal-requires
+print_refusal-requires c =
+    let E = c.before.before.before.before.before.before.before in
+    let S = E.before.before.before.before.before.before.before.before.before in
+    let a = S.args in
+    let l : GeneratorList = record { n = a.n; signs = a.signs.now; z = a.z.now; x = a.x.now } in
+    (number_small l _ _ _ S.requires _ _ _ E.reduce-number.ensures, omega (arith, S.requires.room))
+
+pub returns-then-number-ne0 : goal.returns-then-number-ne0
+returns-then-number-ne0 c =
+    let E = c.before.before.before.before.before.before.before.before.before.before in
+    let S = E.before.before.before.before.before.before.before.before.before in
+    let a = S.args in
+    let l : GeneratorList = record { n = a.n; signs = a.signs.now; z = a.z.now; x = a.x.now } in
+    same-print (refused-printed l _ _ _ S.requires _ _ _ E.reduce-number.ensures
+    c.if-number-ne0.true) c.print_refusal.ensures
+
+pub print_record-requires : goal.print_record-requires
+print_record-requires c =
+    let E = c.before.before.before.before.before.before.before.before.before in
+    let S = E.before.before.before.before.before.before.before.before.before in
+    let a = S.args in
+    let l : GeneratorList = record { n = a.n; signs = a.signs.now; z = a.z.now; x = a.x.now } in
+    printable l _ _ _ S.requires _ _ _ E.reduce.ensures c.if1.false
+
+pub returns : goal.returns
+returns c =
+    let E = c.before.before.before.before.before.before.before.before.before.before.before.before in
+    let S = E.before.before.before.before.before.before.before.before.before in
+    let a = S.args in
+    let l : GeneratorList = record { n = a.n; signs = a.signs.now; z = a.z.now; x = a.x.now } in
+    same-print (record-printed l _ _ _ S.pre _ _ _ E.reduce.ensures
+    c.if1.false)
+    c.print_record.ensures

@@ -1,0 +1,43 @@
+-- `lines_fit` meets its contract: whether each of n lines fits.
+use mathlib.Core.Path.{ap, sym, ◌∙◌}
+use Prim.Native.Nat.{◌+◌, ◌-◌}
+use native.Mathlib.Nat.{zero-mul}
+use native.Mathlib.Omega.{arith}
+use lib.ListN.{get_or}
+use Rattle.text.proofs.SizeLaws.{line-inside, next-line}
+use Rattle.text.specs.Reading.{line_fits}
+use Rattle.text_strings.proofs.FitLoops.{all_tested, none-tested, one-tested}
+use Rattle.text_strings.proofs.form.lines_fit.Goals as goal
+
+pub loop-j-init : goal.loop-j-init
+loop-j-init c = (none-tested _ _, sym (zero-mul _))
+
+pub line_fits-fit-requires : goal.line_fits-fit-requires
+line_fits-fit-requires c =
+    let s = c.before.before.before.before in
+    let l = c.loop-j in
+    omega (arith, l.invariant.1, line-inside s.args.text.now s.args.n l.j s.requires c.loop-j-test.true)
+
+pub overflow_add-from-in-loop-j : goal.overflow_add-from-in-loop-j
+overflow_add-from-in-loop-j c =
+    let s = c.before.before.before.before.before in
+    let l = c.loop-j in
+    omega (
+      arith,
+      l.invariant.1,
+      line-inside s.args.text.now s.args.n l.j s.requires c.loop-j-test.true,
+      c.ranges,
+    )
+
+pub loop-j-preserved : goal.loop-j-preserved
+loop-j-preserved c =
+    let s = c.before.before.before.before.before in
+    let l = c.loop-j in (
+      one-tested _ _ l.invariant.0 c.loop-j-test.true
+          (c.line_fits-fit.ensures
+          ∙ ap (λ k. line_fits s.args.n (λ i. get_or s.args.text.now (k + i) 0)) l.invariant.1),
+      ap (λ k. k + (s.args.n + 2)) l.invariant.1 ∙ next-line s.args.n l.j,
+    )
+
+pub returns : goal.returns
+returns c = all_tested _ _ c.loop-j.invariant.0 c.loop-j-test.false

@@ -1,0 +1,21 @@
+-- `string_form` meets its contract: whether a text with n newlines has the form.
+use mathlib.Core.Path.{sym, ◌∙◌}
+use borrow.Author.Tests.{eqb-true}
+use Rattle.text_strings.proofs.FitLoops.{lines-decide, size-decides}
+use Rattle.text_strings.proofs.form.string_form.Goals as goal
+
+pub lines_fit-requires : goal.lines_fit-requires
+lines_fit-requires c = eqb-true _ _ (sym c.has_size.ensures ∙ c.if-has_size.true)
+
+pub returns-then-has_size : goal.returns-then-has_size
+returns-then-has_size c =
+    let s = c.before.before.before in
+    let a = s.before.before in
+    lines-decide a.args.text.now a.args.n a.requires (sym s.has_size.ensures ∙ c.if-has_size.true)
+    c.lines_fit.ensures
+
+pub returns-else-has_size : goal.returns-else-has_size
+returns-else-has_size c =
+    let s = c.before.before in
+    let a = s.before.before in
+    size-decides a.args.text.now a.args.n a.requires (sym s.has_size.ensures ∙ c.if-has_size.false)

@@ -1,0 +1,24 @@
+-- `put_letters` meets its contract: the letters of the first n qubits.
+use mathlib.Core.Path.{ap, ap₂, ◌∙◌}
+use Prim.Native.Nat.{◌-◌}
+use Rattle.pauli.specs.Pauli.{letter}
+use Rattle.text.specs.Strings.{letter_byte}
+use Rattle.text_strings.proofs.PrintLoops.{all-put, none-put, one-put}
+use Rattle.text_strings.proofs.printing.put_letters.Goals as goal
+
+pub loop-q-init : goal.loop-q-init
+loop-q-init c = none-put _ _ _ _ c.requires.1
+
+pub loop-q-preserved : goal.loop-q-preserved
+loop-q-preserved c =
+    let l = c.before.before.before.before.before in
+    let s = l.before.before in
+    let i = c.loop-q-test.true in
+    one-put _ _ _ _ s.requires.1 l.loop-q.invariant i
+    (c.letter_byte.ensures ∙ ap letter_byte (c.letter_of.ensures
+    ∙ ap₂ letter c.has.ensures c.has-in-loop-q.ensures))
+
+pub returns : goal.returns
+returns c =
+    let s = c.before.before.before in
+    all-put _ _ _ _ s.requires.1 c.loop-q.invariant c.loop-q-test.false
