@@ -78,15 +78,15 @@ module _ (n : ℕ) (r : GraphRecord) (S : Simple n r.graph) (F : ReducedForm n r
   good b y = every b (fits_at r y)
 
   module _ (b v : ℕ) (l : v < 2 ^ b) where
-    same_bit : (t : ℕ) → t < b → bit (2 ^ b + v) t ≡ bit v t
-    same_bit t k = set-bit b v l t ∙ ap (λ c. c ⊕ bit v t) (other_place {i = t} {j = b} (λ e. lt_irrefl b (rw e at k)))
+    kept-bit : (t : ℕ) → t < b → bit (2 ^ b + v) t ≡ bit v t
+    kept-bit t k = set-bit b v l t ∙ ap (λ c. c ⊕ bit v t) (other_place {i = t} {j = b} (λ e. lt_irrefl b (rw e at k)))
 
     same-value : (j : ℕ) → j ≤ b → value j (2 ^ b + v) ≡ value j v
     same-value j k = ap (λ c. (r.codes j).sx ⊕ c)
-        (fold-ext false ◌⊕◌ j (λ q m. ap (λ c. r.graph j q && c) (same_bit q (omega arith))))
+        (fold-ext false ◌⊕◌ j (λ q m. ap (λ c. r.graph j q && c) (kept-bit q (omega arith))))
 
     same_good : good b (2 ^ b + v) ≡ good b v
-    same_good = every-ext b _ _ (λ j k. ap₂ (λ c d. not (rotated j) || same_bit c d) (same_bit j k)
+    same_good = every-ext b _ _ (λ j k. ap₂ (λ c d. not (rotated j) || same_bit c d) (kept-bit j k)
         (same-value j (omega arith)))
 
     lower : good (suc b) v ≡ (good b v && (not (rotated b) || not (value b v)))

@@ -62,7 +62,7 @@ use Rattle.operations.proofs.AcceptedSteps.{
   measured-list,
 }
 use Rattle.operations.proofs.MeasuringMarks.{marked-word}
-use Rattle.operations.proofs.UsedPassing.{lines-pass, used-passes, used_step}
+use Rattle.operations.proofs.UsedPassing.{lines-pass, used-passes, used_step_lem}
 use Rattle.operations.specs.Used.{used_arguments_of, used_lines_of, UsedRecord, UsedUnrefused}
 use Rattle.words.proofs.Flags.{same-by-both}
 use Rattle.source.proofs.Observed.{answered, observed-passes}
@@ -163,7 +163,7 @@ module _ (waiting : Bool) (u : UsedRecord) (W : Standing waiting u) where
 
   module _ (o : Operation) {k : ℕ} (e : k ≡ first_fitting (used_lines_of (meant waiting u) o)) (z : k ≡ 0) where
     before : first_fitting (lines_of v o) ≡ 0
-    before = used_step (meant waiting u) o (sym e ∙ z)
+    before = used_step_lem (meant waiting u) o (sym e ∙ z)
 
   module _ (q k : ℕ) {j : ℕ} (e : j ≡ first_fitting (used_lines_of (meant waiting u) (gate_with q k))) (z : j ≡ 0) where
     pub gate-place : (q < length u.held.neighbours) × (k < 24)

@@ -20,14 +20,14 @@ use Rattle.record.specs.Lent.{code_numbers, LentRecord, lent_record, neighbour_w
 use Rattle.record.specs.Records.{GraphRecord}
 use Rattle.operations.proofs.AcceptedSteps.{accepted-step}
 use Rattle.operations.proofs.MeasuringMarks.{marked-word}
-use Rattle.operations.proofs.UsedPassing.{used-passes, used_step}
+use Rattle.operations.proofs.UsedPassing.{used-passes, used_step_lem}
 use Rattle.operations.specs.Used.{UsedRecord, used_after, used_lines_of, used_step}
 use Rattle.words.specs.Bits.{is_odd}
 use Rattle.calls.specs.InPlace.{in_place_call, measure_call, record_lent, used_call, used_measure_call}
 
 module _ (u : UsedRecord) (o : Operation) {k : ℕ} (e : k ≡ first_fitting (used_lines_of u o)) (z : k ≡ 0) where
   pub as_before : first_fitting (lines_of u.held o) ≡ 0
-  as_before = used_step u o (sym e ∙ z)
+  as_before = used_step_lem u o (sym e ∙ z)
 
   pub long : length u.held.neighbours ≡ u.held.n
   long = (accepted-step u.held o as_before).neighbours-length
@@ -49,14 +49,14 @@ module _ (u : UsedRecord) (o : Operation) {k : ℕ} (e : k ≡ first_fitting (us
 -- ---- what a call says without the used word
 pub without-used : (u : UsedRecord) (o : Operation) {nb' cs' : List ℕ} → Call (used_call u o nb' cs') 0
     → Call (in_place_call u.held o nb' cs') 0
-without-used u o C = record { number = sym (used_step u o (sym C.number)); held = C.held }
+without-used u o C = record { number = sym (used_step_lem u o (sym C.number)); held = C.held }
 
 pub measured-without : (u : UsedRecord) (pauli q b : ℕ) {answer determined : ℕ} {nb' cs' : List ℕ}
     {used' answer' determined' : ℕ}
     → Call (used_measure_call u pauli q b answer determined nb' cs' used' answer' determined') 0
     → Call (measure_call u.held pauli q b answer determined nb' cs' answer' determined') 0
 measured-without u pauli q b C =
-    record { number = sym (used_step u (measurement_of pauli q b) (sym C.number)); held = C.held.1 }
+    record { number = sym (used_step_lem u (measurement_of pauli q b) (sym C.number)); held = C.held.1 }
 
 -- what the buffers hold after a call is what the step leaves
 pub left-by-call : (u : UsedRecord) (o : Operation) {r : ℕ} {nb' cs' : List ℕ} → Call (used_call u o nb' cs') r
@@ -69,7 +69,7 @@ left-by-call u o {r} {nb'} {cs'} C = go (eqb (first_fitting (used_lines_of u o))
     go true h =
         let z = eqb-true (first_fitting (used_lines_of u o)) 0 h in
         let w = written_all C (C.number ∙ z) in
-        let s = sym (used_step u o z) in (
+        let s = sym (used_step_lem u o z) in (
           w.0 ∙ ap (λ k. accepted k (neighbour_words u.held.n (made u.held o)) u.held.neighbours) s,
           w.1.0 ∙ ap (λ k. accepted k (code_numbers u.held.n (made u.held o)) u.held.codes) s,
         )

@@ -54,7 +54,7 @@ use Rattle.pauli.specs.Pauli.{Pauli}
 use Rattle.record.specs.Lent.{held_rows}
 use Rattle.stabilizer.specs.Groups.{InGroup}
 use Rattle.operations.proofs.LeftRecords.{used-left}
-use Rattle.operations.proofs.UsedPassing.{in-place-counted, used-passes, used_step, with-used-passes}
+use Rattle.operations.proofs.UsedPassing.{in-place-counted, used-passes, used_step_lem, with-used-passes}
 use Rattle.operations.specs.Used.{UsedRecord, names_used, used_arguments_of, used_lines_of}
 use Rattle.words.specs.Bits.{is_odd}
 use Rattle.claims.proofs.Contradictions.{contradicted-by-group}
@@ -120,7 +120,7 @@ module _ (u : UsedRecord) (G : Group) (S : StandsFor u G) where
       → HasGroup (request_leaves u r).held (AfterRequest u.held.n G r)
   request-stands (carry_out o) z = subst (λ r. HasGroup r (AfterOperation u.held.n G o))
       (sym (used-left u o z).held)
-      (operation-stands u.held G has-group o (used_step u o z))
+      (operation-stands u.held G has-group o (used_step_lem u o z))
   request-stands (observation_of pauli q b) z = observation-stands u G has-group pauli q b z
   request-stands (renewal_of q k) z = renewal-stands u G has-group q k z
 

@@ -172,17 +172,17 @@ stops : (n : ℕ) (r : GraphRecord) → Decides (stuck n r) (StopsWithC n r)
 unfolding stuck
 stops n r = some-decides n (follow (state_of r) (image_list n r)).C _ (λ j. itself)
 
-is_y : (a : Letter) → Decides (is_y a) (a ≡ Y)
-is_y I = ((λ e. absurd (false≢true e)), (λ e. ap is_y e))
-is_y X = ((λ e. absurd (false≢true e)), (λ e. ap is_y e))
-is_y Y = ((λ e. refl), (λ e. refl))
-is_y Z = ((λ e. absurd (false≢true e)), (λ e. ap is_y e))
+is_y_lem : (a : Letter) → Decides (is_y a) (a ≡ Y)
+is_y_lem I = ((λ e. absurd (false≢true e)), (λ e. ap is_y e))
+is_y_lem X = ((λ e. absurd (false≢true e)), (λ e. ap is_y e))
+is_y_lem Y = ((λ e. refl), (λ e. refl))
+is_y_lem Z = ((λ e. absurd (false≢true e)), (λ e. ap is_y e))
 
 loops : (n : ℕ) (r : GraphRecord) → Decides (looped n r) ((StopsWithC n r → ⊥) × OwnY n r)
 unfolding looped
 loops n r = and-decides (not-decides (stops n r))
     (some-decides n (λ j. is_y (letter_at (rows_of n (image_record n r) j) j)) _
-    (λ j. is_y (letter_at (rows_of n (image_record n r) j) j)))
+    (λ j. is_y_lem (letter_at (rows_of n (image_record n r) j) j)))
 
 pub image-words : (l : LentRecord) (image signs list : List ℕ)
     → Matches (image_lines l image signs list) (image_sentences l image signs list)

@@ -29,7 +29,7 @@ use Rattle.record.specs.Lent.{held_record}
 use Rattle.record.specs.Records.{complement_record}
 use Rattle.operations.proofs.AcceptedSteps.{after-made}
 use Rattle.operations.proofs.LeftRecords.{used-left}
-use Rattle.operations.proofs.UsedPassing.{used_step}
+use Rattle.operations.proofs.UsedPassing.{used_step_lem}
 use Rattle.operations.proofs.UsedRefusing.{edge-unused, pivot-never}
 use Rattle.operations.specs.Used.{UsedRecord, used_lines, used_lines_of, used_step}
 use Rattle.operations.specs.UsedLaws.{UsedStay}
@@ -76,13 +76,13 @@ module _ (u : UsedRecord) (a : ℕ) (F : ComplementFits u a) where
 
   -- the record of the rule, in buffers
   written : (complemented u a).held ≡ written_record u.held.n (complement_record (held_record u.held) a)
-  written = L.held ∙ after-made u.held (complement_of a) (used_step u (complement_of a) accepted)
+  written = L.held ∙ after-made u.held (complement_of a) (used_step_lem u (complement_of a) accepted)
 
   -- and as it is read again
   held-again : held_record (complemented u a).held ≡ complement_record (held_record u.held) a
   held-again = ap held_record L.held ∙ record-path _ _
       (complements-keep u.held a _ _ (call-of u.held (complement_of a)
-      (used_step u (complement_of a) accepted))).holds
+      (used_step_lem u (complement_of a) accepted))).holds
 
   -- a qubit that is not used may be complemented next
   again : (b : ℕ) → Free u b → ComplementFits (complemented u a) b
@@ -139,7 +139,7 @@ module _ (u : UsedRecord) (a b value : ℕ) (e : number_of u (pivot_step a b val
   last = complemented (complemented (complemented u a) b) a
 
   before : first_fitting (lines_of u.held (pivot_of a b)) ≡ 0
-  before = used_step u (pivot_of a b) number
+  before = used_step_lem u (pivot_of a b) number
 
   P : UsedLeft u (pivot_of a b) (used_step u (pivot_of a b)).after
   P = used-left u (pivot_of a b) number

@@ -20,7 +20,7 @@ use Rattle.operations.specs.Used.{used_lines, UsedRecord, used_record}
 use Rattle.stabilizer.proofs.SharedTests.{has-length, length-passes}
 use Rattle.text.proofs.RecordForm.{count-back, form-text, lines-back, text-form}
 use Rattle.text.proofs.RecordLaws.{length-lines}
-use Rattle.text.proofs.RecordLines.{print-lines, same_text}
+use Rattle.text.proofs.RecordLines.{print-lines, same_text_lem}
 use Rattle.text.specs.RecordTexts.{LineFits, line_read, qubit_count, record_form, record_lines_text}
 use Rattle.text.specs.Text.{qubit_lines, record_names, record_text}
 use Rattle.text.specs.internal.Text.{line_held}
@@ -85,7 +85,7 @@ pub text-back : (t : List ℕ) → record_form t ≡ true → qubit_count t ≤ 
 text-back t form few =
     print-lines n (record_in_text t).held.neighbours (record_in_text t).held.codes (record_in_text t).used
     (omega (arith, few))
-    ∙ same_text n (line_held (record_in_text t).held.neighbours (record_in_text t).held.codes
+    ∙ same_text_lem n (line_held (record_in_text t).held.neighbours (record_in_text t).held.codes
     (record_in_text t).used) (line_read t) each
     ∙ sym (form-text t form)
   where

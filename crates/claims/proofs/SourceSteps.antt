@@ -11,7 +11,7 @@ use Rattle.claims.proofs.RenewalsHold.{group-renewed}
 use Rattle.jobs.specs.GroupsAfter.AfterMeasurement.{joined, kept, same}
 use Rattle.jobs.specs.GroupsAfter.{AfterMeasurement, Group, GroupDetermines}
 use Rattle.operations.proofs.LeftRecords.{used-left}
-use Rattle.operations.proofs.UsedPassing.{used_step}
+use Rattle.operations.proofs.UsedPassing.{used_step_lem}
 use Rattle.operations.specs.Measurement.{determined_number, is_determined, outcome_number, pauli_letter, single}
 use Rattle.operations.specs.Steps.{measure_lines, measured_answer, measurement_of}
 use Rattle.operations.specs.Used.{UsedRecord, used_arguments_of, used_step}
@@ -49,7 +49,7 @@ module _ (u : UsedRecord) (G : Group) (S : HasGroup u.held G) where
     found = answered u pauli q b
 
     before : first_fitting (measure_lines u.held pauli q (answered u pauli q b)) ≡ 0
-    before = used_step u (measurement_of pauli q found) (observed-accepted u pauli q b z)
+    before = used_step_lem u (measurement_of pauli q found) (observed-accepted u pauli q b z)
 
     -- it answers what the measurement with that outcome does
     same_answer : determined_number (measured_answer u.held pauli q found) ≡ determined_number

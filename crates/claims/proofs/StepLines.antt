@@ -29,7 +29,7 @@ use Rattle.operations.specs.Steps.{
 use Rattle.operations.specs.declared.Outcome.{Outcome}
 use Rattle.operations.specs.declared.Outcome.TheVariants.{Chosen, Determined}
 use Rattle.record.specs.Lent.{LentRecord}
-use Rattle.operations.proofs.UsedPassing.{used_step}
+use Rattle.operations.proofs.UsedPassing.{used_step_lem}
 use Rattle.operations.specs.Used.{UsedRecord}
 use Rattle.claims.proofs.JobSteps.{HasGroup, answer-stands}
 use Rattle.claims.proofs.JobsStand.{has-group, refused-exactly}
@@ -94,13 +94,13 @@ request-digit l (renewal_of q k) = inl refl
 module _ (u : UsedRecord) (G : Group) (S : HasGroup u.held G) where
   request-determined : (r : Request) → first_fitting (request_lines u r) ≡ 0
       → (request_determined u.held r ≡ 1) ↔ RequestDetermines G r
-  request-determined (carry_out o) z = determined-of u.held G S o (used_step u o z)
+  request-determined (carry_out o) z = determined-of u.held G S o (used_step_lem u o z)
   request-determined (observation_of pauli q b) z = lot-determined u G S pauli q b z
   request-determined (renewal_of q k) z = never
 
   request-outcome : (r : Request) → first_fitting (request_lines u r) ≡ 0 → RequestOutcomeIs G r
       (request_outcome u.held r)
-  request-outcome (carry_out o) z = outcome-of u.held G S o (used_step u o z)
+  request-outcome (carry_out o) z = outcome-of u.held G S o (used_step_lem u o z)
   request-outcome (observation_of pauli q b) z = lot-outcome u G S pauli q b z
   request-outcome (renewal_of q k) z = refl
 

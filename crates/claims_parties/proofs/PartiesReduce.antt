@@ -25,7 +25,7 @@ use Rattle.record.specs.Accepted.{AcceptedRecord}
 use Rattle.record.specs.Lent.{LentRecord}
 use Rattle.store.proofs.PassingStores.{held-record}
 use Rattle.operations.proofs.LeftRecords.{used-left}
-use Rattle.operations.proofs.UsedPassing.{used_step}
+use Rattle.operations.proofs.UsedPassing.{used_step_lem}
 use Rattle.operations.specs.Used.{UsedRecord, used_after, used_step}
 use Rattle.operations.specs.internal.UsedLaws.{UsedLeft}
 use Rattle.words.specs.Bits.{Word}
@@ -99,7 +99,7 @@ module _ (word g : ℕ) (u : UsedRecord) (o : Operation) (G : PartyOp o) (R : Re
 
   after-reduced : IsReduced (masked (in_party word g) (party_after word g u o)).held
   after-reduced = subst IsReduced (sym (ap (λ v. v.held) (operation-left word g u o) ∙ again ∙ L.held))
-      (R (masked (in_party word g) u).held (used_step (masked (in_party word g) u) o number))
+      (R (masked (in_party word g) u).held (used_step_lem (masked (in_party word g) u) o number))
 
   operation-reduces : (nb' cs' : List ℕ) (used' : ℕ) → nb' ≡ (party_after word g u o).held.neighbours →
       cs' ≡ (party_after word g u o).held.codes → used' ≡ (party_after word g u o).used →

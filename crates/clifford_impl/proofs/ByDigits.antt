@@ -23,9 +23,9 @@ abbrev by_digits : (Bool → Bool → Bool → Bool → Bool → Bool) → ℕ �
 by_digits f c = f (bit c 0) (bit c 1) (bit c 2) (bit c 3) (bit c 4)
 
 module _ (f : Bool → Bool → Bool → Bool → Bool → Bool) (p : Clifford → Bool) where
-  by_digits : every 24 (λ c. same_bit (by_digits f c) (p (clifford_of c))) ≡ true → (c : ℕ) → c < 24
+  every-by_digits : every 24 (λ c. same_bit (by_digits f c) (p (clifford_of c))) ≡ true → (c : ℕ) → c < 24
       → by_digits f c ≡ p (clifford_of c)
-  by_digits e c l =
+  every-by_digits e c l =
       same_bit→≡ _ _ (subst T (sym (every-at 24 (λ c. same_bit (by_digits f c) (p (clifford_of c))) e c l)) tt)
 
 abbrev bits_a : Bool → Bool → Bool → Bool → Bool → Bool
@@ -46,31 +46,31 @@ bits_y sz sx low middle high = (sx ⊕ sz) ⊕ ((low || middle) ⊕ (low && high
 module _ (c : ℕ) (l : c < 24) where
   digits-A : by_digits bits_a c ≡ z_bit (image (clifford_of c) Z)
   unfolding every bit
-  digits-A = by_digits bits_a (λ k. z_bit (image k Z)) refl c l
+  digits-A = every-by_digits bits_a (λ k. z_bit (image k Z)) refl c l
 
   digits-B : by_digits bits_b c ≡ z_bit (image (clifford_of c) X)
   unfolding every bit
-  digits-B = by_digits bits_b (λ k. z_bit (image k X)) refl c l
+  digits-B = every-by_digits bits_b (λ k. z_bit (image k X)) refl c l
 
   digits-C : by_digits bits_c c ≡ bit_c (clifford_of c)
   unfolding every bit
-  digits-C = by_digits bits_c bit_c refl c l
+  digits-C = every-by_digits bits_c bit_c refl c l
 
   digits-D : by_digits bits_d c ≡ bit_d (clifford_of c)
   unfolding every bit
-  digits-D = by_digits bits_d bit_d refl c l
+  digits-D = every-by_digits bits_d bit_d refl c l
 
   digits-SX : bit c 1 ≡ (clifford_of c).sx
   unfolding every bit
-  digits-SX = by_digits (λ sz sx low middle high. sx) (λ k. k.sx) refl c l
+  digits-SX = every-by_digits (λ sz sx low middle high. sx) (λ k. k.sx) refl c l
 
   digits-SY : by_digits bits_y c ≡ sign_bit (image_phase (clifford_of c) Y)
   unfolding every bit
-  digits-SY = by_digits bits_y (λ k. sign_bit (image_phase k Y)) refl c l
+  digits-SY = every-by_digits bits_y (λ k. sign_bit (image_phase k Y)) refl c l
 
   digits-SZ : bit c 0 ≡ (clifford_of c).sz
   unfolding every bit
-  digits-SZ = by_digits (λ sz sx low middle high. sz) (λ k. k.sz) refl c l
+  digits-SZ = every-by_digits (λ sz sx low middle high. sz) (λ k. k.sz) refl c l
 
 -- ---- all codes, as the code has it
 module _ (cs : List ℕ) (below : (q : ℕ) → get_or cs q 0 < 24) (sz sx low middle high : ℕ)

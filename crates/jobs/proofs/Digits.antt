@@ -16,9 +16,9 @@ unfolding digit_value
 value-digit d small =
     simp (le-ltb (48 + d) 48 (omega arith), lt-ltb (48 + d) 58 (omega arith)) (omega arith)
 
-pub digit_value : (b : ℕ) → digit_value b < 10 → b ≡ 48 + digit_value b
+pub digit_value_lem : (b : ℕ) → digit_value b < 10 → b ≡ 48 + digit_value b
 unfolding digit_value
-digit_value b =
+digit_value_lem b =
     by-test Right (ltb b 48) 10 (cond (ltb b 58) (b - 48) 10) (λ _ small. absurd (omega arith))
     (λ above. by-test Right (ltb b 58) (b - 48) 10
     (λ below small. omega (arith, ltb-false b 48 above))

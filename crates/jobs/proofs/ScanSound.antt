@@ -35,7 +35,7 @@ use Rattle.jobs.specs.declared.scan.Place.{Place}
 use Rattle.jobs.specs.declared.scan.Place.TheVariants.{Head, Word, First, More, Broken}
 use Rattle.jobs.specs.declared.scan.Scan.{Scan}
 use Rattle.text.proofs.NumeralLaws.{one_place}
-use Rattle.jobs.proofs.Digits.{digit_value, digits_push}
+use Rattle.jobs.proofs.Digits.{digit_value_lem, digits_push}
 use Rattle.jobs.proofs.OpLaws.{letter_at, next-in-texts, space-last, same_start}
 use Rattle.jobs.proofs.Steps.{job-none, job-more, fit-more}
 use Rattle.jobs.proofs.Sofar.{Upto, a_part, b_part, value_part, Before, Inside, AtHead, AtWord, Sofar}
@@ -193,7 +193,7 @@ module _ (s : Scan) (t : List ℕ) (b : ℕ) (named : in_texts s.op ≡ true) wh
         start = t;
         before = sofar;
         small = omega arith;
-        text = ap (λ l. t ++ l) (ap (λ c. c ∷ []) (digit_value b small) ∙ sym (one_place 2 d small));
+        text = ap (λ l. t ++ l) (ap (λ c. c ∷ []) (digit_value_lem b small) ∙ sym (one_place 2 d small));
       })
       (λ _. tt)
 
@@ -257,7 +257,7 @@ module _ (s : Scan) (t : List ℕ) (b : ℕ) (named : in_texts s.op ≡ true) wh
         text =
             ap (λ l. l ++ b ∷ []) sofar.text ∙ append_assoc sofar.start (field v) (b ∷ [])
             ∙ ap (λ l. sofar.start ++ l)
-            (ap (λ c. field v ++ c ∷ []) (digit_value b small) ∙ sym (digits_push v d some short small));
+            (ap (λ c. field v ++ c ∷ []) (digit_value_lem b small) ∙ sym (digits_push v d some short small));
       })
       (λ _. tt))
       (λ _. by-test After (eqb b (separator f)) (ended f s) (moved s Broken)

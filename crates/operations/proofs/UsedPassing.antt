@@ -155,8 +155,8 @@ module _ (u : UsedRecord) (o : Operation) where
       passes = with-used-passes u (lines_of u.held o) (counted u.held o) (names_used u o)
 
   -- an accepted call is an accepted call without the used word
-  pub used_step : (used_step u o).number ≡ 0 → first_fitting (lines_of u.held o) ≡ 0
-  used_step e = (used-passes.0 e).as_before
+  pub used_step_lem : (used_step u o).number ≡ 0 → first_fitting (lines_of u.held o) ≡ 0
+  used_step_lem e = (used-passes.0 e).as_before
 
 -- with no used qubit the number of a call is what it was
 pub unused-number : (l : LentRecord) (o : Operation)

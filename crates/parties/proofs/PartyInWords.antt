@@ -197,9 +197,9 @@ module _ (word g : ℕ) (u : UsedRecord) (st : Store) where
   other-count = some-decides 4 _ _ (λ i. and-decides (itself {a = is_held own.heads i})
       (not-decides (equal (count_at own.heads i) 64)))
 
-  held_out : ltb 1 g ≡ false → Decides (held_out (in_party word g) own)
+  held_out_lem : ltb 1 g ≡ false → Decides (held_out (in_party word g) own)
       ((i : ℕ) × (i < 4) × ((is_held own.heads i ≡ true) × NeighbourOutside word g (place_at own i)))
-  held_out low = some-decides 4 _ _ (λ i. and-decides (itself {a = is_held own.heads i})
+  held_out_lem low = some-decides 4 _ _ (λ i. and-decides (itself {a = is_held own.heads i})
       (reaches-out word g (place_at own i) low))
 
   shared-in-words : Matches (shared_lines word g u st) (shared_sentences word g u st)
@@ -229,7 +229,7 @@ module _ (word g : ℕ) (u : UsedRecord) (st : Store) where
                       or-none (or-none (or-decides (of-7 u) (or-none
                           (or-decides (or-none (or-none (held 4 own 7 _ of-7)))
                           (or-decides (twice 4 own.heads)
-                          (held_out (low (of_record u 6 || holds_line 6 (own_lines (in_party word g) g st)) e6))))))),
+                          (held_out_lem (low (of_record u 6 || holds_line 6 (own_lines (in_party word g) g st)) e6))))))),
                       λ e. (refl, (edge-between word u, λ e. tt)),
                     ),
                   ),

@@ -17,7 +17,7 @@ use Rattle.operations.specs.Measurement.{contradicts, pauli_letter}
 use Rattle.operations.specs.Steps.{Operation, measured_answer, measurement_of}
 use Rattle.record.specs.Lent.{held_record, held_rows, record_codes, record_lengths, record_lines}
 use Rattle.operations.proofs.AcceptedSteps.{measure-arguments}
-use Rattle.operations.proofs.UsedPassing.{lines-pass, used_step}
+use Rattle.operations.proofs.UsedPassing.{lines-pass, used_step_lem}
 use Rattle.operations.specs.Used.{UsedRecord, used_lines, used_lines_of, used_stray, with_used}
 use Rattle.words.proofs.BitLaws.{bit-above}
 use Rattle.words.proofs.Flags.{neither}
@@ -156,5 +156,5 @@ module _ (word g : ℕ) (u : UsedRecord) (H : Apart word u) where
       → first_fitting (used_lines_of u (measurement_of pauli q b)) ≡ 0
       → measured_answer u.held pauli q b ≡ measured_answer (masked (in_party word g) u).held pauli q b
   masked-answer pauli q b own e =
-      let M = measure-arguments u.held pauli q b (used_step u (measurement_of pauli q b) e) in
+      let M = measure-arguments u.held pauli q b (used_step_lem u (measurement_of pauli q b) e) in
       answered-alike pauli q own M.below M.not_None b

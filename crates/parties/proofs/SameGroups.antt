@@ -21,7 +21,7 @@ use Rattle.record.specs.Records.{rows_of}
 use Rattle.stabilizer.specs.Groups.{SameGroup}
 use Rattle.store.proofs.PassingStores.{held-record}
 use Rattle.operations.proofs.LeftRecords.{used-left}
-use Rattle.operations.proofs.UsedPassing.{used_step}
+use Rattle.operations.proofs.UsedPassing.{used_step_lem}
 use Rattle.operations.specs.Used.{UsedRecord, used_step}
 use Rattle.operations.specs.internal.UsedLaws.{UsedLeft}
 use Rattle.words.specs.Bits.{Word}
@@ -52,7 +52,7 @@ module _ (word g : ℕ) (u : UsedRecord) (H : Apart word u) (o : Operation) (G :
 
   -- the call is accepted on the whole record and on the party's vertices alone
   whole : first_fitting (lines_of u.held o) ≡ 0
-  whole = used_step u o P.lines
+  whole = used_step_lem u o P.lines
 
   on-own : (used_step v o).number ≡ 0
   on-own = sym (masked-number word g u H o G P.own) ∙ P.lines
@@ -68,7 +68,7 @@ module _ (word g : ℕ) (u : UsedRecord) (H : Apart word u) (o : Operation) (G :
   A = held-record left L.passes
 
   left-made : held_record left.held ≡ made v.held o
-  left-made = ap held_record L.held ∙ made_held v.held o G (used_step v o on-own)
+  left-made = ap held_record L.held ∙ made_held v.held o G (used_step_lem v o on-own)
 
   left_split : Split s (made v.held o).graph
   left_split = subst (λ r. Split s r.graph) left-made

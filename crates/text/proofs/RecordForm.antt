@@ -11,7 +11,7 @@ use lib.Seq.{drop_at, drop-drop, ext_get_or}
 use borrow.Author.Tests.{eq-eqb, eqb-true}
 use Rattle.words.proofs.Flags.{both_true}
 use Rattle.words.proofs.SearchLaws.{every-at, every_in}
-use Rattle.text.proofs.RecordLines.{lines-counted, same_text, text-more, text-next}
+use Rattle.text.proofs.RecordLines.{lines-counted, same_text_lem, text-more, text-next}
 use Rattle.text.proofs.RecordReading.{line-back, read_fits}
 use Rattle.text.specs.RecordTexts.{
   HasRecordForm,
@@ -81,7 +81,7 @@ module _ (n : ℕ) (L : ℕ → RecordLine) (fit : (q : ℕ) → q < n → LineF
   unfolding record_form
   text-form =
       true_same whole _ (sym (ap (λ k. record_lines_text k (line_read whole)) count-back
-      ∙ same_text n (line_read whole) L lines-back))
+      ∙ same_text_lem n (line_read whole) L lines-back))
 
 -- ---- a text that passes
 pub form-text : (t : List ℕ) → record_form t ≡ true → t ≡ record_lines_text (qubit_count t) (line_read t)

@@ -73,10 +73,10 @@ same_lines (suc n) L M h =
     ap₂ ◌++◌ (same_lines n L M (λ q l. h q (omega arith))) (ap (numbered_line n) (h n (omega arith)))
 
 -- lines that agree
-pub same_text : (n : ℕ) (L M : ℕ → RecordLine) → ((q : ℕ) → q < n → L q ≡ M q) →
+pub same_text_lem : (n : ℕ) (L M : ℕ → RecordLine) → ((q : ℕ) → q < n → L q ≡ M q) →
     record_lines_text n L ≡ record_lines_text n M
 unfolding record_lines_text
-same_text n L M h = ap (λ t. record_names ++ t) (same_lines n L M h)
+same_text_lem n L M h = ap (λ t. record_names ++ t) (same_lines n L M h)
 
 -- ---- newlines
 hex-count : (k w : ℕ) → line_count (hex_text k w) ≡ 0

@@ -23,7 +23,7 @@ use Rattle.operations.specs.Steps.{complement_of, cz_on, gate_with, measurement_
 use Rattle.store.specs.Kept.{save_place}
 use Rattle.store.specs.Places.{Store, holds_name, others_held}
 use Rattle.operations.proofs.AcceptedSteps.{accepted-step}
-use Rattle.operations.proofs.UsedPassing.{used_step}
+use Rattle.operations.proofs.UsedPassing.{used_step_lem}
 use Rattle.operations.specs.Used.{UsedRecord}
 use Rattle.words.proofs.Flags.{neither}
 use Rattle.claims.proofs.PartiesExactly.{party-exactly, own-exactly, with-last}
@@ -54,7 +54,7 @@ record-fills : (word g : ℕ) (u : UsedRecord) (o : Operation) (nb' cs' : List �
     0
     → EachOf Fills (party_lent word g u o nb' cs')
 record-fills word g u o nb' cs' z =
-    let A = accepted-step u.held o (used_step u o (party-passes word g u o z).lines) in (
+    let A = accepted-step u.held o (used_step_lem u o (party-passes word g u o z).lines) in (
       table-fills u.held.n _ u.held.neighbours A.neighbours-length,
       (table-fills u.held.n _ u.held.codes A.codes-length, tt),
     )

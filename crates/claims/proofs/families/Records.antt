@@ -21,7 +21,7 @@ use Rattle.record.proofs.AcceptedRecords.{accepted-record}
 use Rattle.record.proofs.RecordLines.{record-numbered}
 use Rattle.record.specs.Lent.{held_record, LentRecord, record_lines}
 use Rattle.operations.proofs.AcceptedSteps.{accepted-step}
-use Rattle.operations.proofs.UsedPassing.{used_step}
+use Rattle.operations.proofs.UsedPassing.{used_step_lem}
 use Rattle.operations.specs.Used.{used_lines, used_lines_of, UsedRecord}
 use Rattle.claims.proofs.ImageDemandHolds.{images-follow}
 use Rattle.claims.proofs.LinesExactly.{below-exactly, more-exactly, record-exactly, three-fit}
@@ -112,7 +112,7 @@ records-conform =
       };
       in_place = λ u o nb' cs'. record {
         order = in_order u o;
-        complete = λ z. let A = accepted-step u.held o (used_step u o z) in (
+        complete = λ z. let A = accepted-step u.held o (used_step_lem u o z) in (
           table-fills u.held.n _ u.held.neighbours A.neighbours-length,
           (table-fills u.held.n _ u.held.codes A.codes-length, tt),
         );
@@ -120,7 +120,7 @@ records-conform =
       measurements = λ u pauli q b answer determined nb' cs' used' answer' determined'. record {
         order = refl;
         complete = λ z. let o = measurement_of pauli q b in
-            let A = accepted-step u.held o (used_step u o z) in (
+            let A = accepted-step u.held o (used_step_lem u o z) in (
               tt,
               (
                 tt,
