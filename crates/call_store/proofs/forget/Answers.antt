@@ -5,7 +5,7 @@ use Rattle.call_store.proofs.forget.Goals as goal
 
 -- the store that is lent
 abbrev store : goal.Start → Store
-store S = record { heads = S.args.heads.now; neighbours = S.args.held-neighbours.now; codes = S.args.held-codes.now }
+store S = record { heads = S.args.heads.now; neighbours = S.args.held_neighbours.now; codes = S.args.held_codes.now }
 
 pub returns-then-early-ne0 : goal.returns-then-early-ne0
 returns-then-early-ne0 c =

@@ -9,7 +9,7 @@ use Rattle.call_store.proofs.return_to.Goals as goal
 
 -- the store that is lent
 abbrev store : goal.Start → Store
-store S = record { heads = S.args.heads.now; neighbours = S.args.held-neighbours.now; codes = S.args.held-codes.now }
+store S = record { heads = S.args.heads.now; neighbours = S.args.held_neighbours.now; codes = S.args.held_codes.now }
 
 -- the first number, with line 4 of the two buffers
 early : (R : goal.After-store_refusal-early) → R.store_refusal-early.result

@@ -12,7 +12,7 @@ lent S = used_record S.args.n S.args.neighbours.now S.args.codes.now S.args.used
 
 -- the store that is lent
 abbrev store : goal.Start → Store
-store S = record { heads = S.args.heads.now; neighbours = S.args.held-neighbours.now; codes = S.args.held-codes.now }
+store S = record { heads = S.args.heads.now; neighbours = S.args.held_neighbours.now; codes = S.args.held_codes.now }
 
 pub returns-then-early-ne0 : goal.returns-then-early-ne0
 returns-then-early-ne0 c =
@@ -60,6 +60,6 @@ returns c =
     save-done (lent S) (store S) _ _ R.save-refusal.ensures E.if1.false _ P.place_for-place.ensures L.if-place-ge8.false
     _ _ _
     (H.put_head.ensures ∙ ap (λ q. headed q a.n a.name a.used a.heads.now) P.place_for-place.ensures)
-    (W.put_record.ensures.0 ∙ ap (λ q. placed_at q a.neighbours.now a.held-neighbours.now)
+    (W.put_record.ensures.0 ∙ ap (λ q. placed_at q a.neighbours.now a.held_neighbours.now)
     P.place_for-place.ensures)
-    (W.put_record.ensures.1 ∙ ap (λ q. placed_at q a.codes.now a.held-codes.now) P.place_for-place.ensures)
+    (W.put_record.ensures.1 ∙ ap (λ q. placed_at q a.codes.now a.held_codes.now) P.place_for-place.ensures)

@@ -10,6 +10,6 @@ returns c =
     let S = U.before.before.before.before.before.before in
     save-number (used_record S.args.n S.args.neighbours.now S.args.codes.now S.args.used) (record {
       heads = S.args.heads.now;
-      neighbours = S.args.held-neighbours.now;
-      codes = S.args.held-codes.now;
+      neighbours = S.args.held_neighbours.now;
+      codes = S.args.held_codes.now;
     }) _ _ _ U.used_refusal-own.ensures T.store_refusal-others.ensures c.earlier.ensures

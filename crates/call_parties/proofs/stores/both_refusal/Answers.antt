@@ -11,6 +11,6 @@ returns c =
     both-number S.args.word S.args.party (used_record S.args.n S.args.neighbours.now
     S.args.codes.now S.args.used) (record {
       heads = S.args.heads.now;
-      neighbours = S.args.held-neighbours.now;
-      codes = S.args.held-codes.now;
+      neighbours = S.args.held_neighbours.now;
+      codes = S.args.held_codes.now;
     }) _ _ _ U.used_refusal-own.ensures H.own_refusal-held.ensures c.earlier.ensures

@@ -10,7 +10,7 @@ lent S = used_record S.args.n S.args.neighbours.now S.args.codes.now S.args.used
 
 -- the store that is lent
 abbrev store : goal.Start → Store
-store S = record { heads = S.args.heads.now; neighbours = S.args.held-neighbours.now; codes = S.args.held-codes.now }
+store S = record { heads = S.args.heads.now; neighbours = S.args.held_neighbours.now; codes = S.args.held_codes.now }
 
 pub returns-then-early-ne0 : goal.returns-then-early-ne0
 returns-then-early-ne0 c =

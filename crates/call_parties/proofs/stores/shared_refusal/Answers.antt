@@ -13,7 +13,7 @@ lent S = used_record S.args.n S.args.neighbours.now S.args.codes.now S.args.used
 
 -- the store that is lent
 abbrev store : goal.Start → Store
-store S = record { heads = S.args.heads.now; neighbours = S.args.held-neighbours.now; codes = S.args.held-codes.now }
+store S = record { heads = S.args.heads.now; neighbours = S.args.held_neighbours.now; codes = S.args.held_codes.now }
 
 pub returns-then-n-ne64 : goal.returns-then-n-ne64
 returns-then-n-ne64 c =

@@ -62,7 +62,7 @@ loop-k-preserved c =
       R.run_block-word.auto.1.1.0 ∙ l.invariant.2,
       R.run_block-word.auto.1.1.1.1.1.1.1.0 ∙ l.invariant.3,
       block-ready (used_record a.n l.neighbours l.codes l.word) l.k L.block_length-m.result
-          B.block_at-block.result (omega (arith, m.2, B.block_at-block.type-inv.1.0.1))
+          B.block_at-block.result (omega (arith, m.2, B.block_at-block.type_inv.1.0.1))
           _ _ _ _ _ R.run_block-word.ensures l.invariant.4,
     )
 

@@ -10,7 +10,7 @@ pub returns : goal.returns
 returns c =
     λ q.
     let a = c.args in
-    bit-xors _ _ _ (λ q. a.minus-a && bit a.to-b q) (λ q. a.minus-b && bit a.to-a q)
+    bit-xors _ _ _ (λ q. a.minus_a && bit a.to_b q) (λ q. a.minus_b && bit a.to_a q)
     c.where_true.ensures c.where_true-2.ensures q
-    ∙ ap (λ b. b ⊕ ((a.minus-a && bit a.to-b q) ⊕ (a.minus-b && bit a.to-a q)))
-    (bit-and a.to-a a.to-b q)
+    ∙ ap (λ b. b ⊕ ((a.minus_a && bit a.to_b q) ⊕ (a.minus_b && bit a.to_a q)))
+    (bit-and a.to_a a.to_b q)

@@ -25,8 +25,8 @@ returns c =
     let second = third.before.before.before.before.before.before.before in
     let first = second.before.before.before.before.before.before.before in
     let start = first.before.before.before.before.before in
-    let a = start.args.to-a in
-    let b = start.args.to-b in record { same_graph = flipped-thrice a b start.args.neighbours.now first.turn_rows.new.0 second.turn_rows-2.new.0
+    let a = start.args.to_a in
+    let b = start.args.to_b in record { same_graph = flipped-thrice a b start.args.neighbours.now first.turn_rows.new.0 second.turn_rows-2.new.0
           third.turn_rows-3.new.0 first.turn_rows.ensures.same_graph second.turn_rows-2.ensures.same_graph
           third.turn_rows-3.ensures.same_graph; codes_after = turned-thrice a b start.args.codes.now _ _ _ first.turn_rows.ensures.codes_after second.turn_rows-2.ensures.codes_after
           third.turn_rows-3.ensures.codes_after }

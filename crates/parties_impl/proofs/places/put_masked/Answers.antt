@@ -9,5 +9,5 @@ returns c =
     let U = H.before.before in
     let a = U.args in
     put-at a.i a.own a.neighbours.now a.codes.now a.used a.name _ a.heads.now
-    a.held-neighbours.now a.held-codes.now _ _ _ U.mask_used.ensures H.put_head.ensures
+    a.held_neighbours.now a.held_codes.now _ _ _ U.mask_used.ensures H.put_head.ensures
     M.mask.ensures.0 M.mask.ensures.1

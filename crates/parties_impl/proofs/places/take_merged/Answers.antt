@@ -6,5 +6,5 @@ pub returns : goal.returns
 returns c =
     let M = c.before.before.before.before.before in
     let a = M.args in
-    taken_at a.i a.own a.neighbours.now a.codes.now a.held-neighbours.now a.held-codes.now _ _
+    taken_at a.i a.own a.neighbours.now a.codes.now a.held_neighbours.now a.held_codes.now _ _
     M.merge.ensures.0 M.merge.ensures.1

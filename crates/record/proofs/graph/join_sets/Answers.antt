@@ -8,7 +8,7 @@ use Rattle.record.proofs.graph.join_sets.Goals as goal
 pub loop-rest-init : goal.loop-rest-init
 loop-rest-init c =
     let start = c.before.before in
-    join-start _ start.args.to-a start.args.to-b start.requires.1 start.requires.2
+    join-start _ start.args.to_a start.args.to_b start.requires.1 start.requires.2
 
 pub offset_bounds-neighbours-i : goal.offset_bounds-neighbours-i
 offset_bounds-neighbours-i c =
@@ -72,11 +72,11 @@ loop-rest-preserved c =
     let at-smallest = c.before.before.before in
     let inside = at-smallest.before in
     let start = inside.before.before.before in
-    join_more _ start.args.to-a start.args.to-b _ _ inside.loop-rest.invariant start.requires.0
+    join_more _ start.args.to_a start.args.to_b _ _ inside.loop-rest.invariant start.requires.0
     inside.loop-rest-test.true _ at-smallest.smallest-i.ensures.0 _ _ c.joined_word.ensures
     (dropped-at _ _ _ c.without_smallest-rest.ensures at-smallest.smallest-i.ensures.0)
 
 pub returns : goal.returns
 returns c =
     let start = c.before.before.before in
-    join-end _ start.args.to-a start.args.to-b _ _ c.loop-rest.invariant c.loop-rest-test.false
+    join-end _ start.args.to_a start.args.to_b _ _ c.loop-rest.invariant c.loop-rest-test.false

@@ -9,14 +9,14 @@ use Rattle.stabilizer_impl.proofs.independence.add_to_later.Goals as goal
 pub loop-j-init : goal.loop-j-init
 loop-j-init c =
     let a = c.args in
-    adding-start a.n a.k a.in-x a.i a.z.now a.x.now c.requires.n_bound.1
+    adding-start a.n a.k a.in_x a.i a.z.now a.x.now c.requires.n_bound.1
 
 pub loop-j-preserved : goal.loop-j-preserved
 loop-j-preserved c =
     let L = c.before.before.before.before.before.before.before.before in
     let S = L.before.before.before.before.before in
     let a = S.args in
-    adding-step a.n a.k a.in-x a.i a.z.now a.x.now L.loop-j.z L.loop-j.x L.loop-j.j
+    adding-step a.n a.k a.in_x a.i a.z.now a.x.now L.loop-j.z L.loop-j.x L.loop-j.j
     L.loop-j.invariant
     c.loop-j-test.true (omega (arith, S.requires.z_len.0))
     (omega (arith, S.requires.z_len.1)) c.chosen_word-word.result c.chosen_word-word.ensures
@@ -27,5 +27,5 @@ pub returns : goal.returns
 returns c =
     let S = c.before.before.before.before.before.before in
     let a = S.args in
-    adding-end a.n a.k a.in-x a.i a.z.now a.x.now _ _ _ c.loop-j.invariant c.loop-j-test.false
+    adding-end a.n a.k a.in_x a.i a.z.now a.x.now _ _ _ c.loop-j.invariant c.loop-j-test.false
     S.requires.z_len.0 S.requires.z_len.1

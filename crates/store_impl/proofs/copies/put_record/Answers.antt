@@ -7,8 +7,8 @@ pub returns : goal.returns
 returns c =
     let C = c.before.before.before.before.before in
     let S = C.before.before.before.before.before.before.before in (
-      placed S.args.i _ S.args.neighbours.now _ S.args.held-neighbours.now refl
+      placed S.args.i _ S.args.neighbours.now _ S.args.held_neighbours.now refl
           C.copy_record.ensures.0,
-      placed S.args.i _ S.args.codes.now _ S.args.held-codes.now S.requires.i_bound.1
+      placed S.args.i _ S.args.codes.now _ S.args.held_codes.now S.requires.i_bound.1
           C.copy_record.ensures.1,
     )

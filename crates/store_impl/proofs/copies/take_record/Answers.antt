@@ -17,7 +17,7 @@ slice_bounds-copy_record-end-6 c =
 pub copy_record-requires : goal.copy_record-requires
 copy_record-requires c =
     let S = c.before.before.before.before.before.before.before.before.before in
-    let words = part_count S.args.i S.args.n S.args.held-neighbours.now S.requires.n_in_bounds.0 in record { codes_len = part_count S.args.i S.args.n S.args.held-codes.now S.requires.n_in_bounds.1 ∙ sym words; words_len = (
+    let words = part_count S.args.i S.args.n S.args.held_neighbours.now S.requires.n_in_bounds.0 in record { codes_len = part_count S.args.i S.args.n S.args.held_codes.now S.requires.n_in_bounds.1 ∙ sym words; words_len = (
         length-take-le S.args.n S.args.neighbours.now S.requires.i_bound.1 ∙ sym words,
         length-take-le S.args.n S.args.codes.now S.requires.i_bound.2 ∙ sym words,
       ) }
@@ -26,7 +26,7 @@ pub returns : goal.returns
 returns c =
     let C = c.before.before.before.before.before in
     let S = C.before.before.before.before.before.before.before.before.before in (
-      taken_out _ _ S.args.held-neighbours.now _ S.args.neighbours.now S.requires.n_in_bounds.0
+      taken_out _ _ S.args.held_neighbours.now _ S.args.neighbours.now S.requires.n_in_bounds.0
           C.copy_record.ensures.0,
-      taken_out _ _ S.args.held-codes.now _ S.args.codes.now S.requires.n_in_bounds.1 C.copy_record.ensures.1,
+      taken_out _ _ S.args.held_codes.now _ S.args.codes.now S.requires.n_in_bounds.1 C.copy_record.ensures.1,
     )
