@@ -7,12 +7,10 @@ use Rattle.operations_gates.proofs.gate_record.Goals as goal
 
 pub gate_code-requires : goal.gate_code-requires
 gate_code-requires c =
-    let start = (c.requires.unrefused, (c.requires.q_in_bounds, c.requires.suspected)) in
     (unrefused-place _ _ c.requires.unrefused _ c.requires.q_in_bounds.0, (unrefused-codes _ _ c.requires.unrefused).1, c.requires.q_in_bounds.1)
 
 pub single-requires : goal.single-requires
 single-requires c =
-    let start = (c.requires.unrefused, (c.requires.q_in_bounds, c.requires.suspected)) in
     omega (arith, c.requires.q_in_bounds.0, unrefused-short _ _ c.requires.unrefused)
 
 pub settle_all-requires : goal.settle_all-requires
@@ -21,7 +19,7 @@ settle_all-requires c =
     let at-gate = at-single.before.before.before in
     let begun = at-gate.before.before.before.before in
     let a = begun.args in
-    let p = (begun.requires.unrefused, (begun.requires.q_in_bounds, begun.requires.suspected)) in
+    
     let gated = at-gate.gate_code.ensures in
     let own = at-single.single.ensures in record { unrefused = gated-unrefused _ _ begun.requires.unrefused a.q begun.requires.q_in_bounds.0 a.k _ gated; suspected = gate-suspected _ _ a.q _ _ gated _ a.touched own begun.requires.suspected.0; watched = gate-watched _ _ a.q _ _ gated _ a.touched own begun.requires.q_in_bounds.0 begun.requires.suspected.1 }
 

@@ -18,7 +18,7 @@ returns c =
     let at-letter-named = at-z-bit.before in
     let at-image = at-letter-named.before in
     let begun = at-image.before.before.before.before in
-    let start = (begun.requires.unrefused, begun.requires.le_pauli) in
+    
     let own = at-image.image-own in
     read-by-calls _ _ begun.requires.unrefused.0 _ begun.requires.unrefused.1 _ begun.requires.le_pauli.0 own.result.minus at-image.image-own.ensures.letter_value
     at-image.image-own.ensures.minus_value at-letter-named.letter_named-asked.ensures

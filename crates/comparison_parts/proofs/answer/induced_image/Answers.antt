@@ -6,7 +6,6 @@ use Rattle.comparison_parts.proofs.answer.induced_image.Goals as goal
 
 pub induced_codes-requires : goal.induced_codes-requires
 induced_codes-requires c =
-    let q = (c.requires.accepted_record, (c.requires.choice_len, c.requires.codes)) in
     let L = c.requires.choice_len in record { first_len = (c.requires.accepted_record.codes-length ∙ sym L.2, L.0 ∙ sym L.2); second_len = L.1 ∙ sym L.2; codes = (c.requires.accepted_record.codes-below, c.requires.codes.0, c.requires.codes.1) }
 
 pub image_answer-requires : goal.image_answer-requires

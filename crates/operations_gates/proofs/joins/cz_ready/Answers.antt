@@ -9,39 +9,33 @@ use Rattle.operations_gates.proofs.joins.cz_ready.Goals as goal
 
 pub bounds-codes-a : goal.bounds-codes-a
 bounds-codes-a c =
-    let start = (c.requires.unrefused, (c.requires.ready, c.requires.a_in_bounds)) in
     unrefused-place _ _ c.requires.unrefused _ c.requires.a_in_bounds.0
 
 pub bounds-codes-b : goal.bounds-codes-b
 bounds-codes-b c =
-    let start = (c.requires.unrefused, (c.requires.ready, c.requires.a_in_bounds)) in
     unrefused-place _ _ c.requires.unrefused _ c.requires.a_in_bounds.1
 
 pub reach_word-to_a-requires : goal.reach_word-to_a-requires
 reach_word-to_a-requires c =
-    let start = (c.requires.unrefused, (c.requires.ready, c.requires.a_in_bounds)) in
     ((unrefused-codes _ _ c.requires.unrefused).1 _, omega (arith, c.requires.a_in_bounds.0, unrefused-short _ _ c.requires.unrefused))
 
 pub reach_word-to_b-requires : goal.reach_word-to_b-requires
 reach_word-to_b-requires c =
-    let start = (c.requires.unrefused, (c.requires.ready, c.requires.a_in_bounds)) in
     ((unrefused-codes _ _ c.requires.unrefused).1 _, omega (arith, c.requires.a_in_bounds.1, unrefused-short _ _ c.requires.unrefused))
 
 pub reach_minus-requires : goal.reach_minus-requires
 reach_minus-requires c =
-    let start = (c.requires.unrefused, (c.requires.ready, c.requires.a_in_bounds)) in
     (unrefused-codes _ _ c.requires.unrefused).1 _
 
 pub reach_minus-requires-2 : goal.reach_minus-requires-2
 reach_minus-requires-2 c =
-    let start = (c.requires.unrefused, (c.requires.ready, c.requires.a_in_bounds)) in
     (unrefused-codes _ _ c.requires.unrefused).1 _
 
 pub join_sets-requires : goal.join_sets-requires
 join_sets-requires c =
     let at_b = c.before.before.before.before.before in
     let at_a = at_b.before.before in
-    let start = (at_a.requires.unrefused, (at_a.requires.ready, at_a.requires.a_in_bounds)) in (
+    (
       unrefused-short _ _ at_a.requires.unrefused,
       reach-fits _ _ at_a.requires.unrefused _ at_a.requires.a_in_bounds.0 _ at_a.reach_word-to_a.ensures,
       reach-fits _ _ at_a.requires.unrefused _ at_a.requires.a_in_bounds.1 _ at_b.reach_word-to_b.ensures,
@@ -54,8 +48,7 @@ put_before-requires c =
     let at-minus-a = at-minus-b.before in
     let at_b = at-minus-a.before in
     let at_a = at_b.before.before in
-    let begun = at_a.before.before.before.before.before.before in
-    let start = (begun.requires.unrefused, (begun.requires.ready, begun.requires.a_in_bounds)) in record { codes_len_bound = unrefused-codes _ _ begun.requires.unrefused; word_bound = (
+    let begun = at_a.before.before.before.before.before.before in record { codes_len_bound = unrefused-codes _ _ begun.requires.unrefused; word_bound = (
         turned-fits _ _ begun.requires.unrefused _ _ begun.requires.a_in_bounds.0 begun.requires.a_in_bounds.1 begun.requires.a_in_bounds.2 begun.requires.ready _
             (turned-by-calls (held_record (record_in begun.args.neighbours.now begun.args.codes.now))
             begun.args.a begun.args.b _ _ _ at_a.reach_word-to_a.ensures at_b.reach_word-to_b.ensures
@@ -73,7 +66,7 @@ returns c =
     let at_b = at-minus-a.before in
     let at_a = at_b.before.before in
     let begun = at_a.before.before.before.before.before.before in
-    let start = (begun.requires.unrefused, (begun.requires.ready, begun.requires.a_in_bounds)) in
+    
     cz-written _ _ begun.requires.unrefused _ _ begun.requires.a_in_bounds.0 begun.requires.a_in_bounds.1 begun.requires.a_in_bounds.2 begun.requires.ready _ _ _ _ _
     at_a.reach_word-to_a.ensures at_b.reach_word-to_b.ensures
     (turned-by-calls (held_record (record_in begun.args.neighbours.now begun.args.codes.now))

@@ -5,7 +5,7 @@ use Rattle.operations_gates.proofs.SettlingLoop.{settling-end, settling-less, se
 use Rattle.operations_gates.proofs.settling.settle_all.Goals as goal
 
 pub loop-rest-init : goal.loop-rest-init
-loop-rest-init c = let start = (c.requires.unrefused, (c.requires.suspected, c.requires.watched)) in settling-start _ _ _ _ c.requires.unrefused c.requires.suspected c.requires.watched
+loop-rest-init c = settling-start _ _ _ _ c.requires.unrefused c.requires.suspected c.requires.watched
 
 pub settle_next-next-requires : goal.settle_next-next-requires
 settle_next-next-requires c =

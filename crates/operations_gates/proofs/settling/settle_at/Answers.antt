@@ -11,23 +11,20 @@ use Rattle.operations_gates.proofs.settling.settle_at.Goals as goal
 
 pub bounds-codes-j : goal.bounds-codes-j
 bounds-codes-j c =
-    let start = (c.requires.unrefused, c.requires.j_value) in
     unrefused-place _ _ c.requires.unrefused.0 _ c.requires.unrefused.1
 
 pub overflow_shr-word : goal.overflow_shr-word
 overflow_shr-word c =
-    let start = (c.requires.unrefused, c.requires.j_value) in
     omega (arith, c.requires.unrefused.1, unrefused-short _ _ c.requires.unrefused.0)
 
 pub largest-k-requires : goal.largest-k-requires
 largest-k-requires c =
-    let start = (c.requires.unrefused, c.requires.j_value) in
     word-reaches _ _ c.requires.unrefused.0 _ c.requires.unrefused.1 c.requires.j_value c.if-code-word.true
 
 pub offset_bounds-neighbours-k : goal.offset_bounds-neighbours-k
 offset_bounds-neighbours-k c =
     let branch = c.before.before in
-    let start = (branch.requires.unrefused, branch.requires.j_value) in
+    
     let top = c.largest-k.ensures in
     omega (
       arith,
@@ -38,7 +35,7 @@ offset_bounds-neighbours-k c =
 pub bounds-neighbours-k : goal.bounds-neighbours-k
 bounds-neighbours-k c =
     let branch = c.before.before.before in
-    let start = (branch.requires.unrefused, branch.requires.j_value) in
+    
     let top = c.largest-k.ensures in
     larger-below _ _ branch.requires.unrefused.0 _ branch.requires.unrefused.1 branch.requires.j_value branch.if-code-word.true _ top.0 top.1
 
@@ -46,21 +43,21 @@ pub pivot_record-requires : goal.pivot_record-requires
 pivot_record-requires c =
     let at-largest = c.before.before.before in
     let branch = at-largest.before in
-    let start = (branch.requires.unrefused, branch.requires.j_value) in
+    
     let top = at-largest.largest-k.ensures in
     let below = larger-below _ _ branch.requires.unrefused.0 _ branch.requires.unrefused.1 branch.requires.j_value branch.if-code-word.true _ top.0 top.1 in record { unrefused = branch.requires.unrefused.0; j_in_bounds = (branch.requires.unrefused.1, below); k_value = top.0 }
 
 pub single-requires : goal.single-requires
 single-requires c =
     let at-largest = c.before.before.before.before.before.before.before.before.before in
-    let start = (at-largest.requires.unrefused, at-largest.requires.j_value) in
+    
     omega (arith, at-largest.requires.unrefused.1, unrefused-short _ _ at-largest.requires.unrefused.0)
 
 pub single-requires-then-code-word : goal.single-requires-then-code-word
 single-requires-then-code-word c =
     let at-largest = c.before.before.before.before.before.before.before.before.before.before in
     let branch = at-largest.before in
-    let start = (branch.requires.unrefused, branch.requires.j_value) in
+    
     let top = at-largest.largest-k.ensures in
     omega (
       arith,
@@ -70,7 +67,6 @@ single-requires-then-code-word c =
 
 pub single-own-requires : goal.single-own-requires
 single-own-requires c =
-    let start = (c.requires.unrefused, c.requires.j_value) in
     omega (arith, c.requires.unrefused.1, unrefused-short _ _ c.requires.unrefused.0)
 
 pub single-own-requires-else-code-ge12 : goal.single-own-requires-else-code-ge12
@@ -83,7 +79,7 @@ returns-then-code-word c =
     let at-pivot = c.before.before.before.before.before.before.before in
     let at-largest = at-pivot.before.before.before.before in
     let branch = at-largest.before in
-    let start = (branch.requires.unrefused, branch.requires.j_value) in
+    
     let top = at-largest.largest-k.ensures in (
       pivot-nearer _ _ branch.requires.unrefused.0 _ _ _ _ branch.requires.unrefused.1
           (larger-below _ _ branch.requires.unrefused.0 _ branch.requires.unrefused.1 branch.requires.j_value branch.if-code-word.true _ top.0 top.1)
@@ -97,7 +93,7 @@ pub returns-then-code-ge12 : goal.returns-then-code-ge12
 returns-then-code-ge12 c =
     let at-complement = c.before.before.before.before.before.before in
     let branch = at-complement.before.before.before in
-    let start = (branch.requires.unrefused, branch.requires.j_value) in (
+    (
       complement-nearer _ _ branch.requires.unrefused.0 _ _ _ branch.requires.unrefused.1 at-complement.complement_record.ensures
           (complement-less _ _ branch.requires.unrefused.0 _ branch.requires.unrefused.1 branch.requires.j_value branch.if-code-word.false
           branch.if-code-ge12.true),

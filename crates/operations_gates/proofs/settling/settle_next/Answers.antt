@@ -11,20 +11,20 @@ use Rattle.operations_gates.proofs.settling.settle_next.Goals as goal
 pub bounds-neighbours-j : goal.bounds-neighbours-j
 bounds-neighbours-j c =
     let at = c.before.before in
-    let start = (at.requires.unrefused, (at.requires.suspected, at.requires.watched)) in
+    
     next-below _ _ at.requires.unrefused _ at.requires.watched.0 at.requires.watched.1 _ at.smallest-j.ensures.0
 
 pub bounds-codes-j : goal.bounds-codes-j
 bounds-codes-j c =
     let at = c.before.before.before in
-    let start = (at.requires.unrefused, (at.requires.suspected, at.requires.watched)) in
+    
     unrefused-place _ _ at.requires.unrefused _
     (next-below _ _ at.requires.unrefused _ at.requires.watched.0 at.requires.watched.1 _ at.smallest-j.ensures.0)
 
 pub is_unsettled-requires : goal.is_unsettled-requires
 is_unsettled-requires c =
     let at = c.before.before.before in
-    let start = (at.requires.unrefused, (at.requires.suspected, at.requires.watched)) in
+    
     omega (
       arith,
       unrefused-short _ _ at.requires.unrefused,
@@ -39,7 +39,7 @@ returns-then-not-is_unsettled c =
     let branch = c.before.before in
     let looked = branch.before in
     let at = looked.before.before.before in
-    let start = (at.requires.unrefused, (at.requires.suspected, at.requires.watched)) in
+    
     next-dropped _ _ at.requires.unrefused _ at.requires.watched.0 at.requires.watched.1 _ at.smallest-j.ensures.0
     (sym looked.is_unsettled.ensures ∙ not-true _ branch.if-not-is_unsettled.true-raw) _
     (dropped-at _ _ _ c.without_smallest.ensures at.smallest-j.ensures.0) _ at.requires.suspected
@@ -49,7 +49,7 @@ settle_at-touched-requires c =
     let branch = c.before.before in
     let looked = branch.before in
     let at = looked.before.before.before in
-    let start = (at.requires.unrefused, (at.requires.suspected, at.requires.watched)) in
+    
     let below = next-below _ _ at.requires.unrefused _ at.requires.watched.0 at.requires.watched.1 _ at.smallest-j.ensures.0 in (
       (at.requires.unrefused, below),
       next-first _ _ at.requires.unrefused _ at.requires.watched.0 at.requires.watched.1 _ at.smallest-j.ensures.0
@@ -62,6 +62,6 @@ returns c =
     let branch = stepped.before.before.before in
     let looked = branch.before in
     let at = looked.before.before.before in
-    let start = (at.requires.unrefused, (at.requires.suspected, at.requires.watched)) in
+    
     next-settled _ _ at.requires.unrefused _ at.requires.watched.0 at.requires.watched.1 _ at.smallest-j.ensures.0 _
     at.requires.suspected _ _ _ _ stepped.settle_at-touched.ensures.nearer stepped.settle_at-touched.ensures.elsewhere

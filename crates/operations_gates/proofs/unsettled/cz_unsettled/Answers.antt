@@ -8,8 +8,7 @@ make_ready-requires c = let whole = search rules in record { unrefused = whole.0
 
 pub cz_ready-requires : goal.cz_ready-requires
 cz_ready-requires c =
-    let K = (c.make_ready.ensures.group_kept, c.make_ready.ensures.ready) in
-    let start = (c.requires.unrefused, c.requires.a_in_bounds) in record { unrefused = c.make_ready.ensures.group_kept.unrefused; ready = c.make_ready.ensures.ready; a_in_bounds = (
+    record { unrefused = c.make_ready.ensures.group_kept.unrefused; ready = c.make_ready.ensures.ready; a_in_bounds = (
           kept-place _ _ _ _ c.make_ready.ensures.group_kept _ c.requires.a_in_bounds.0,
           kept-place _ _ _ _ c.make_ready.ensures.group_kept _ c.requires.a_in_bounds.1,
           c.requires.a_in_bounds.2,
@@ -23,7 +22,5 @@ shape_of-codes c = search rules
 
 pub returns : goal.returns
 returns c =
-    let K = (c.make_ready.ensures.group_kept, c.make_ready.ensures.ready) in
-    let start = (c.requires.unrefused, c.requires.a_in_bounds) in
     cz-held _ _ _ _ _ _ c.make_ready.ensures.group_kept _ _ c.requires.a_in_bounds.0 c.requires.a_in_bounds.1 c.requires.a_in_bounds.2 c.make_ready.ensures.ready
     c.cz_ready.ensures

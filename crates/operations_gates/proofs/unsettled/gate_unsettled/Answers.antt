@@ -6,7 +6,6 @@ use Rattle.operations_gates.proofs.unsettled.gate_unsettled.Goals as goal
 
 pub gate_code-requires : goal.gate_code-requires
 gate_code-requires c =
-    let start = (c.requires.unrefused, c.requires.q_in_bounds) in
     (unrefused-place _ _ c.requires.unrefused _ c.requires.q_in_bounds.0, (unrefused-codes _ _ c.requires.unrefused).1, c.requires.q_in_bounds.1)
 
 pub shape_of-codes : goal.shape_of-codes

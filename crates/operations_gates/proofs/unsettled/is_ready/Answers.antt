@@ -68,7 +68,6 @@ bounds-neighbours-a c = search rules
 
 pub has-requires : goal.has-requires
 has-requires c =
-    let start = (c.requires.unrefused, c.requires.a_in_bounds) in
     omega (arith, c.requires.a_in_bounds.1, unrefused-short _ _ c.requires.unrefused)
 
 pub returns : goal.returns

@@ -34,5 +34,5 @@ shape_of-codes c = search rules
 
 pub returns : goal.returns
 returns c =
-    let P = (c.part_both.ensures.group_kept, c.part_both.ensures.ready) in record { group_kept = kept_trans _ _ _ _ _ _
+    record { group_kept = kept_trans _ _ _ _ _ _
           c.uncross_both.ensures c.part_both.ensures.group_kept; ready = c.part_both.ensures.ready }

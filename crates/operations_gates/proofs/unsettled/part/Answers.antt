@@ -14,13 +14,10 @@ bounds-neighbours-a c = search rules
 
 pub has-requires : goal.has-requires
 has-requires c =
-    let start = (c.requires.unrefused, c.requires.a_in_bounds) in
     omega (arith, c.requires.a_in_bounds.1, unrefused-short _ _ c.requires.unrefused)
 
 pub pivot_record-requires : goal.pivot_record-requires
-pivot_record-requires c =
-    let branch = c.before.before in
-    let start = (c.requires.unrefused, c.requires.a_in_bounds) in record { unrefused = c.requires.unrefused; j_in_bounds = c.requires.a_in_bounds; k_value = sym branch.has.ensures ∙ branch.if-has.true }
+pivot_record-requires c = let branch = c.before.before in record { unrefused = c.requires.unrefused; j_in_bounds = c.requires.a_in_bounds; k_value = sym branch.has.ensures ∙ branch.if-has.true }
 
 pub shape_of-neighbours : goal.shape_of-neighbours
 shape_of-neighbours c = search rules

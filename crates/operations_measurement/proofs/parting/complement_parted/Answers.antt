@@ -27,6 +27,5 @@ pub returns : goal.returns
 returns c =
     let at-away = c.before.before.before.before.before in
     let at-compose = at-away.before.before.before in
-    let begun = at-compose.before.before.before.before.before in
-    let known = (at-away.complement_away.ensures.same_graph, at-away.complement_away.ensures.codes_after) in record { same_graph = at-away.complement_away.ensures.same_graph; codes_after = recoded-all _ _ begun.requires.0 begun.args.q begun.requires.1 13 6 _ _ at-compose.compose-first.ensures.0
+    let begun = at-compose.before.before.before.before.before in record { same_graph = at-away.complement_away.ensures.same_graph; codes_after = recoded-all _ _ begun.requires.0 begun.args.q begun.requires.1 13 6 _ _ at-compose.compose-first.ensures.0
             at-away.complement_away.ensures.codes_after; value = refl }

@@ -12,34 +12,29 @@ use Rattle.operations_measurement.proofs.parting.pivot_parted.Goals as goal
 
 pub bounds-codes-q : goal.bounds-codes-q
 bounds-codes-q c =
-    let start = (c.requires.unrefused, (c.requires.q_in_bounds, c.requires.k_value)) in
     unrefused-place _ _ c.requires.unrefused _ c.requires.q_in_bounds.0
 
 pub compose-at_q-requires : goal.compose-at_q-requires
 compose-at_q-requires c =
-    let start = (c.requires.unrefused, (c.requires.q_in_bounds, c.requires.k_value)) in
     (lit< tt, (unrefused-codes _ _ c.requires.unrefused).1 _)
 
 pub bounds-codes-k : goal.bounds-codes-k
 bounds-codes-k c =
-    let start = (c.requires.unrefused, (c.requires.q_in_bounds, c.requires.k_value)) in
     unrefused-place _ _ c.requires.unrefused _ c.requires.q_in_bounds.1
 
 pub compose-at_k-requires : goal.compose-at_k-requires
 compose-at_k-requires c =
-    let start = (c.requires.unrefused, (c.requires.q_in_bounds, c.requires.k_value)) in
     (lit< tt, (unrefused-codes _ _ c.requires.unrefused).1 _)
 
 pub single-requires : goal.single-requires
 single-requires c =
-    let start = (c.requires.unrefused, (c.requires.q_in_bounds, c.requires.k_value)) in
     lt_of_lt_of_le c.requires.q_in_bounds.1 (unrefused-short _ _ c.requires.unrefused)
 
 pub join_turning-requires : goal.join_turning-requires
 join_turning-requires c =
     let at-single = c.before.before in
     let begun = at-single.before.before.before.before.before.before.before.before.before in
-    let start = (begun.requires.unrefused, (begun.requires.q_in_bounds, begun.requires.k_value)) in
+    
     let words = begun.args.neighbours.now in
     let S = unrefused-simple _ _ begun.requires.unrefused in record { unrefused = begun.requires.unrefused; to_a_bound = (
         lt-of-bits (length words) _ (S.below begun.args.q),
@@ -69,7 +64,7 @@ pub flip-requires : goal.flip-requires
 flip-requires c =
     let joined = c.before.before.before.before.before in
     let at-single = joined.before.before.before in
-    let start = (at-single.requires.unrefused, (at-single.requires.q_in_bounds, at-single.requires.k_value)) in
+    
     lt_of_lt_of_le at-single.requires.q_in_bounds.0 (unrefused-short _ _ at-single.requires.unrefused)
 
 pub returns : goal.returns
@@ -79,7 +74,7 @@ returns c =
     let at-k = at-single.before.before.before in
     let at-q = at-k.before.before in
     let begun = at-q.before.before.before.before in
-    let start = (begun.requires.unrefused, (begun.requires.q_in_bounds, begun.requires.k_value)) in
+    
     let known = joined.join_turning in
     let q = begun.args.q in
     let k = begun.args.k in

@@ -7,7 +7,6 @@ use Rattle.operations_measurement.proofs.undetermined.measure_open.Goals as goal
 
 pub bounds-codes-q : goal.bounds-codes-q
 bounds-codes-q c =
-    let start = (c.requires.unrefused, (c.requires.q_value, c.requires.fact)) in
     unrefused-place _ _ c.requires.unrefused.0 _ c.requires.unrefused.1
 
 pub sends-requires : goal.sends-requires
@@ -16,8 +15,7 @@ sends-requires c = (unrefused-codes _ _ c.requires.unrefused.0).1 _
 pub measure_x-requires : goal.measure_x-requires
 measure_x-requires c =
     let branch = c.before.before in
-    let begun = branch.before.before.before.before.before in
-    let start = (begun.requires.unrefused, (begun.requires.q_value, begun.requires.fact)) in record { unrefused = begun.requires.unrefused; fact = open-neighbour _ _ begun.requires.unrefused.0 begun.args.q begun.requires.unrefused.1 begun.args.l begun.requires.fact begun.requires.q_value
+    let begun = branch.before.before.before.before.before in record { unrefused = begun.requires.unrefused; fact = open-neighbour _ _ begun.requires.unrefused.0 begun.args.q begun.requires.unrefused.1 begun.args.l begun.requires.fact begun.requires.q_value
           (branch.sends.ensures.0 branch.if-sends.true) }
 
 pub returns-then-sends : goal.returns-then-sends
@@ -28,7 +26,6 @@ returns-then-sends c =
 
 pub bounds-codes-q-2 : goal.bounds-codes-q-2
 bounds-codes-q-2 c =
-    let start = (c.requires.unrefused, (c.requires.q_value, c.requires.fact)) in
     unrefused-place _ _ c.requires.unrefused.0 _ c.requires.unrefused.1
 
 pub sends-requires-2 : goal.sends-requires-2

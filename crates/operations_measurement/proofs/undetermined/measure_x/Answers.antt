@@ -16,8 +16,7 @@ turn_parted-requires c =
     let at-pivot = c.before.before.before.before.before.before in
     let at-largest = at-pivot.before.before.before in
     let begun = at-largest.before.before.before.before in
-    let start = begun.requires.unrefused in
-    let known = (at-pivot.pivot_parted-near.ensures.same_graph, (at-pivot.pivot_parted-near.ensures.codes_after, at-pivot.pivot_parted-near.ensures.by_index)) in let whole = pivot-asks _ _ start.0 begun.args.q at-largest.largest-k.result start.1
+    let start = begun.requires.unrefused in let whole = pivot-asks _ _ start.0 begun.args.q at-largest.largest-k.result start.1
     at-largest.largest-k.ensures.0 _ _
     at-pivot.pivot_parted-near.ensures.codes_after at-pivot.pivot_parted-near.ensures.by_index in record { codes_len_bound = whole.0; near_bound = whole.1 }
 
@@ -28,7 +27,7 @@ returns c =
     let at-largest = at-pivot.before.before.before in
     let begun = at-largest.before.before.before.before in
     let start = begun.requires.unrefused in
-    let known = (at-pivot.pivot_parted-near.ensures.same_graph, (at-pivot.pivot_parted-near.ensures.codes_after, at-pivot.pivot_parted-near.ensures.by_index)) in
+    
     pivot-measured _ _ start.0 begun.args.q at-largest.largest-k.result start.1
     at-largest.largest-k.ensures.0 _ _ at-pivot.pivot_parted-near.ensures.codes_after at-pivot.pivot_parted-near.ensures.by_index begun.args.outcome _ _
     at-pivot.pivot_parted-near.auto.0 at-pivot.pivot_parted-near.ensures.same_graph at_turn.turn_parted.ensures

@@ -6,8 +6,7 @@ pub turn_parted-requires : goal.turn_parted-requires
 turn_parted-requires c =
     let at-complement = c.before.before.before.before.before.before in
     let begun = at-complement.before.before.before.before.before in
-    let start = begun.requires in
-    let known = (at-complement.complement_parted-near.ensures.same_graph, (at-complement.complement_parted-near.ensures.codes_after, at-complement.complement_parted-near.ensures.value)) in let whole = complement-asks _ _ start.0 begun.args.q start.1 _ _ at-complement.complement_parted-near.ensures.codes_after at-complement.complement_parted-near.ensures.value in record { codes_len_bound = whole.0; near_bound = whole.1 }
+    let start = begun.requires in let whole = complement-asks _ _ start.0 begun.args.q start.1 _ _ at-complement.complement_parted-near.ensures.codes_after at-complement.complement_parted-near.ensures.value in record { codes_len_bound = whole.0; near_bound = whole.1 }
 
 pub returns : goal.returns
 returns c =
@@ -15,7 +14,7 @@ returns c =
     let at-complement = at_turn.before.before.before.before.before.before in
     let begun = at-complement.before.before.before.before.before in
     let start = begun.requires in
-    let known = (at-complement.complement_parted-near.ensures.same_graph, (at-complement.complement_parted-near.ensures.codes_after, at-complement.complement_parted-near.ensures.value)) in
+    
     complement-measured _ _ start.0 begun.args.q start.1 _ _ at-complement.complement_parted-near.ensures.codes_after at-complement.complement_parted-near.ensures.value
     begun.args.outcome _ _
     at-complement.complement_parted-near.auto.0 at-complement.complement_parted-near.ensures.same_graph at_turn.turn_parted.ensures

@@ -12,7 +12,7 @@ with_hadamard-turned-requires c = c.requires.codes_len_bound.1 _
 pub put_before-requires : goal.put_before-requires
 put_before-requires c =
     let begun = c.before.before.before.before.before in
-    let start = (begun.requires.codes_len_bound, begun.requires.near_bound) in
+    
     let t = not (beq begun.args.outcome (is_odd (get_or begun.args.codes.now begun.args.q 0))) in record { codes_len_bound = begun.requires.codes_len_bound; word_bound = (where_below _ begun.args.near t _ begun.requires.near_bound.0 c.where_true.ensures, lit< tt) }
 
 pub returns : goal.returns

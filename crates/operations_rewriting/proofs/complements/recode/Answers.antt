@@ -7,16 +7,14 @@ use Rattle.operations_rewriting.proofs.complements.recode.Goals as goal
 
 pub bounds-codes-a : goal.bounds-codes-a
 bounds-codes-a c =
-    let start = (c.requires.unrefused, c.requires.own_bound) in
     unrefused-place _ _ c.requires.unrefused.0 _ c.requires.unrefused.1
 
 pub compose-first-requires : goal.compose-first-requires
 compose-first-requires c =
-    let start = (c.requires.unrefused, c.requires.own_bound) in
     (c.requires.own_bound.0, (unrefused-codes _ _ c.requires.unrefused.0).1 _)
 
 pub put_before-requires : goal.put_before-requires
-put_before-requires c = let start = (c.requires.unrefused, c.requires.own_bound) in record { codes_len_bound = unrefused-codes _ _ c.requires.unrefused.0; word_bound = (around-below _ _ c.requires.unrefused.0 _ c.requires.unrefused.1, c.requires.own_bound.1) }
+put_before-requires c = record { codes_len_bound = unrefused-codes _ _ c.requires.unrefused.0; word_bound = (around-below _ _ c.requires.unrefused.0 _ c.requires.unrefused.1, c.requires.own_bound.1) }
 
 pub bounds-codes-a-2 : goal.bounds-codes-a-2
 bounds-codes-a-2 c =

@@ -11,32 +11,26 @@ use Rattle.operations_rewriting.proofs.pivots.pivot_record.Goals as goal
 
 pub bounds-codes-j : goal.bounds-codes-j
 bounds-codes-j c =
-    let start = (c.requires.unrefused, (c.requires.j_in_bounds, c.requires.k_value)) in
     unrefused-place _ _ c.requires.unrefused _ c.requires.j_in_bounds.0
 
 pub compose-at_j-requires : goal.compose-at_j-requires
 compose-at_j-requires c =
-    let start = (c.requires.unrefused, (c.requires.j_in_bounds, c.requires.k_value)) in
     (lit< tt, (unrefused-codes _ _ c.requires.unrefused).1 _)
 
 pub bounds-codes-k : goal.bounds-codes-k
 bounds-codes-k c =
-    let start = (c.requires.unrefused, (c.requires.j_in_bounds, c.requires.k_value)) in
     unrefused-place _ _ c.requires.unrefused _ c.requires.j_in_bounds.1
 
 pub compose-at_k-requires : goal.compose-at_k-requires
 compose-at_k-requires c =
-    let start = (c.requires.unrefused, (c.requires.j_in_bounds, c.requires.k_value)) in
     (lit< tt, (unrefused-codes _ _ c.requires.unrefused).1 _)
 
 pub single-requires : goal.single-requires
 single-requires c =
-    let start = (c.requires.unrefused, (c.requires.j_in_bounds, c.requires.k_value)) in
     lt_of_lt_of_le c.requires.j_in_bounds.0 (unrefused-short _ _ c.requires.unrefused)
 
 pub single-requires-2 : goal.single-requires-2
 single-requires-2 c =
-    let start = (c.requires.unrefused, (c.requires.j_in_bounds, c.requires.k_value)) in
     lt_of_lt_of_le c.requires.j_in_bounds.1 (unrefused-short _ _ c.requires.unrefused)
 
 pub join_turning-requires : goal.join_turning-requires
@@ -44,7 +38,7 @@ join_turning-requires c =
     let at-k = c.before.before in
     let at_j = at-k.before.before in
     let begun = at_j.before.before.before.before.before.before.before.before in
-    let start = (begun.requires.unrefused, (begun.requires.j_in_bounds, begun.requires.k_value)) in
+    
     let words = begun.args.neighbours.now in
     let S = unrefused-simple _ _ begun.requires.unrefused in record { unrefused = begun.requires.unrefused; to_a_bound = (
         closed-below words S _ _ begun.requires.j_in_bounds.0 at_j.single.ensures,
@@ -78,7 +72,7 @@ returns c =
     let at_j = at-k.before.before in
     let begun = at_j.before.before.before.before in
     let words = begun.args.neighbours.now in
-    let start = (begun.requires.unrefused, (begun.requires.j_in_bounds, begun.requires.k_value)) in
+    
     let known = joined.join_turning in
     pivoted _ _ begun.requires.unrefused begun.args.j begun.args.k begun.requires.j_in_bounds.0 begun.requires.j_in_bounds.1 begun.requires.k_value _ _
     (both-recoded _ _ begun.requires.unrefused begun.args.j begun.args.k begun.requires.j_in_bounds.0 begun.requires.j_in_bounds.1 _ _
