@@ -10,17 +10,27 @@ use Rattle.calls.proofs.InPlaceCalls.{as_before, in-place-done}
 use Rattle.calls.proofs.InPlaceLines.{gate-ready}
 use Rattle.call_gates.proofs.KnownRecords.{marked-words, known-codes}
 use Rattle.calls.proofs.UsedInPlace.{named-as}
+use Rattle.call_gates.proofs.gate_known.Lts as lts
+use Rattle.call_gates.proofs.gate_known.Reads as reads
+use Rattle.call_gates.proofs.gate_known.Tie as tie
 use Rattle.call_gates.proofs.gate_known.Goals as goal
 
+-- where the lemmas below stand
+abbrev AfterInPlaceNumberEarly : Type 0
+AfterInPlaceNumberEarly = lts.After-in_place_number reads.Pre reads.Post tie.handed_clauses
+
+abbrev Start : Type 0
+Start = lts.Start reads.Pre reads.Post tie.handed_clauses
+
 -- the record that is lent
-abbrev lent : goal.Start → UsedRecord
+abbrev lent : Start → UsedRecord
 lent S = used_record S.args.n S.args.neighbours.now S.args.codes.now S.args.used
 
-abbrev asked : goal.Start → Operation
+abbrev asked : Start → Operation
 asked S = gate_with S.args.qubit S.args.code
 
 -- the number of its lines
-number : (E : goal.After-in_place_number-early)
+number : (E : AfterInPlaceNumberEarly)
     → E.in_place_number-early.result
     ≡ first_fitting (used_lines_of (lent E.before.before.before.before.before.before.before.before)
     (asked E.before.before.before.before.before.before.before.before))

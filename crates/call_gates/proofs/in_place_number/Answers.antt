@@ -3,10 +3,17 @@
 -- holds.
 use Rattle.operations.specs.Used.{UsedRecord, used_record}
 use Rattle.calls.proofs.UsedInPlace.{record-refused, then-0, then-16, then-8}
+use Rattle.call_gates.proofs.in_place_number.Lts as lts
+use Rattle.call_gates.proofs.in_place_number.Reads as reads
+use Rattle.call_gates.proofs.in_place_number.Tie as tie
 use Rattle.call_gates.proofs.in_place_number.Goals as goal
 
+-- where the lemmas below stand
+abbrev Start : Type 0
+Start = lts.Start reads.Pre reads.Post tie.handed_clauses
+
 -- the record that is lent
-abbrev lent : goal.Start → UsedRecord
+abbrev lent : Start → UsedRecord
 lent S = used_record S.args.n S.args.neighbours.now S.args.codes.now S.args.used
 
 pub returns-then-early-ne0 : goal.returns-then-early-ne0

@@ -5,10 +5,17 @@ use mathlib.Core.Path.{◌∙◌}
 use Rattle.operations.specs.Used.{UsedRecord, used_record}
 use Rattle.operations_checks.proofs.UsedNumbers.{no-further}
 use Rattle.call_gates.proofs.KnownRecords.{known-true, six-alone}
+use Rattle.call_gates.proofs.known_number.Lts as lts
+use Rattle.call_gates.proofs.known_number.Reads as reads
+use Rattle.call_gates.proofs.known_number.Tie as tie
 use Rattle.call_gates.proofs.known_number.Goals as goal
 
+-- where the lemmas below stand
+abbrev Start : Type 0
+Start = lts.Start reads.Pre reads.Post tie.handed_clauses
+
 -- the record that is lent
-abbrev lent : goal.Start → UsedRecord
+abbrev lent : Start → UsedRecord
 lent S = used_record S.args.n S.args.neighbours.now S.args.codes.now S.args.used
 
 pub returns-then-known : goal.returns-then-known

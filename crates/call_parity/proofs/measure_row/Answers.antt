@@ -10,13 +10,26 @@ use Rattle.calls.proofs.ParityCalls.{row-16, row_done, row_fits, row-refused}
 use Rattle.operations.proofs.UnrefusedRecords.{accepted-unrefused}
 use Rattle.operations.specs.Used.{UsedRecord, used_record}
 use Rattle.parity.proofs.RowPassing.{RowReady}
+use Rattle.call_parity.proofs.measure_row.Lts as lts
+use Rattle.call_parity.proofs.measure_row.Reads as reads
+use Rattle.call_parity.proofs.measure_row.Tie as tie
 use Rattle.call_parity.proofs.measure_row.Goals as goal
 
+-- where the lemmas below stand
+abbrev AfterUsedRefusalEarly : Type 0
+AfterUsedRefusalEarly = lts.After-used_refusal reads.Pre reads.Post tie.handed_clauses
+
+abbrev ElseUsedRowNe0 : Type 0
+ElseUsedRowNe0 = lts.Else2 reads.Pre reads.Post tie.handed_clauses
+
+abbrev Start : Type 0
+Start = lts.Start reads.Pre reads.Post tie.handed_clauses
+
 -- the record that is lent
-abbrev lent : goal.Start → UsedRecord
+abbrev lent : Start → UsedRecord
 lent S = used_record S.args.n S.args.neighbours.now S.args.codes.now S.args.used
 
-abbrev at : goal.After-used_refusal-early → goal.Start
+abbrev at : AfterUsedRefusalEarly → Start
 at E = E.before.before.before.before.before
 
 pub returns-then-early-ne0 : goal.returns-then-early-ne0
@@ -36,7 +49,7 @@ returns-then-used-row-ne0 c =
     (ap not (ne_eqb (bit_and a.used (bit_or a.z a.x)) 0 c.if-used-row-ne0.true))) (λ z. absurd (omega (arith, z)))
     (refl, (refl, (refl, (refl, tt))))
 
-ready : (D : goal.Else-used-row-ne0) → let S = at D.before.before in RowReady (lent S) S.args.z S.args.x S.args.bit
+ready : (D : ElseUsedRowNe0) → let S = at D.before.before in RowReady (lent S) S.args.z S.args.x S.args.bit
 ready D =
     let E = D.before.before in
     let S = at E in

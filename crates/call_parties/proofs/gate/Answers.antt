@@ -9,17 +9,27 @@ use Rattle.operations.specs.Steps.{Operation, gate_with}
 use Rattle.operations.specs.Used.{UsedRecord, used_record}
 use Rattle.parties_impl.proofs.EarlyNumbers.{early-admitted, early-refused, other-as}
 use Rattle.parties_impl.specs.internal.BeforeEight.{before_eight, six_of}
+use Rattle.call_parties.proofs.gate.Lts as lts
+use Rattle.call_parties.proofs.gate.Reads as reads
+use Rattle.call_parties.proofs.gate.Tie as tie
 use Rattle.call_parties.proofs.gate.Goals as goal
 
+-- where the lemmas below stand
+abbrev AfterPartyRefusalEarly : Type 0
+AfterPartyRefusalEarly = lts.After-party_refusal reads.Pre reads.Post tie.handed_clauses
+
+abbrev Start : Type 0
+Start = lts.Start reads.Pre reads.Post tie.handed_clauses
+
 -- the record that is lent
-abbrev lent : goal.Start → UsedRecord
+abbrev lent : Start → UsedRecord
 lent S = used_record S.args.n S.args.neighbours.now S.args.codes.now S.args.used
 
-abbrev asked : goal.Start → Operation
+abbrev asked : Start → Operation
 asked S = gate_with S.args.qubit S.args.code
 
 -- the number of the lines before 8
-number : (E : goal.After-party_refusal-early) → let S = E.before.before.before.before.before.before in
+number : (E : AfterPartyRefusalEarly) → let S = E.before.before.before.before.before.before in
     E.party_refusal-early.result ≡ first_fitting (before_eight S.args.word S.args.party (lent S) (six_of (asked S))
     (names_other (in_party S.args.word S.args.party) S.args.n (asked S)))
 number E =

@@ -4,13 +4,20 @@ use Rattle.parties.specs.internal.Apart.{gate-op}
 use Rattle.operations.specs.Steps.{Operation, gate_with}
 use Rattle.operations.specs.Used.{UsedRecord, used_record}
 use Rattle.call_parties.proofs.PartyCalls.{copied-whole, copy-unrefused, party-done, party-refused, lent-64}
+use Rattle.call_parties.proofs.gate_within.Lts as lts
+use Rattle.call_parties.proofs.gate_within.Reads as reads
+use Rattle.call_parties.proofs.gate_within.Tie as tie
 use Rattle.call_parties.proofs.gate_within.Goals as goal
 
+-- where the lemmas below stand
+abbrev Start : Type 0
+Start = lts.Start reads.Pre reads.Post tie.handed_clauses
+
 -- the record that is lent
-abbrev lent : goal.Start → UsedRecord
+abbrev lent : Start → UsedRecord
 lent S = used_record S.args.n S.args.neighbours.now S.args.codes.now S.args.used
 
-abbrev asked : goal.Start → Operation
+abbrev asked : Start → Operation
 asked S = gate_with S.args.qubit S.args.code
 
 pub take_party-own_used-requires : goal.take_party-own_used-requires

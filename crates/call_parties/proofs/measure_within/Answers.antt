@@ -3,13 +3,20 @@ use mathlib.Core.Path.{◌∙◌}
 use Rattle.operations.specs.Steps.{Operation, measurement_of}
 use Rattle.operations.specs.Used.{UsedRecord, used_record}
 use Rattle.call_parties.proofs.PartyCalls.{copied-whole, copy-unrefused, lent-64, measure-done, measure-refused}
+use Rattle.call_parties.proofs.measure_within.Lts as lts
+use Rattle.call_parties.proofs.measure_within.Reads as reads
+use Rattle.call_parties.proofs.measure_within.Tie as tie
 use Rattle.call_parties.proofs.measure_within.Goals as goal
 
+-- where the lemmas below stand
+abbrev Start : Type 0
+Start = lts.Start reads.Pre reads.Post tie.handed_clauses
+
 -- the record that is lent
-abbrev lent : goal.Start → UsedRecord
+abbrev lent : Start → UsedRecord
 lent S = used_record S.args.n S.args.neighbours.now S.args.codes.now S.args.used.now
 
-abbrev asked : goal.Start → Operation
+abbrev asked : Start → Operation
 asked S = measurement_of S.args.pauli S.args.qubit S.args.outcome
 
 pub take_party-own_used-requires : goal.take_party-own_used-requires

@@ -10,17 +10,27 @@ use Rattle.calls.proofs.SourceCalls.{observe-done}
 use Rattle.buffers.proofs.Calling.{refused}
 use Rattle.operations.specs.Steps.{argument_lines}
 use Rattle.operations.specs.Used.{UsedRecord, used_record}
+use Rattle.call_source.proofs.observe_known.Lts as lts
+use Rattle.call_source.proofs.observe_known.Reads as reads
+use Rattle.call_source.proofs.observe_known.Tie as tie
 use Rattle.call_source.proofs.observe_known.Goals as goal
 
+-- where the lemmas below stand
+abbrev ElseEarlyNe0 : Type 0
+ElseEarlyNe0 = lts.Else1 reads.Pre reads.Post tie.handed_clauses
+
+abbrev Start : Type 0
+Start = lts.Start reads.Pre reads.Post tie.handed_clauses
+
 -- the record that is lent
-abbrev lent : goal.Start → UsedRecord
+abbrev lent : Start → UsedRecord
 lent S = used_record S.args.n S.args.neighbours.now S.args.codes.now S.args.used.now
 
 -- accepted, no line of the arguments held without the used word
-before : (D : goal.Else-early-ne0) → let S = D.before.before.before.before.before.before.before.before.before in
+before : (D : ElseEarlyNe0) → let S = D.before.before.before.before.before.before.before in
     first_fitting (argument_lines (lent S).held S.args.pauli S.args.qubit S.args.bit) ≡ 0
 before D =
-    let E = D.before.before in
+    let E = D.before in
     let S = E.before.before.before.before.before.before in
     let a = S.args in
     arguments-before (lent S) a.pauli a.qubit a.bit (sym E.argument_refusal-early.ensures ∙ D.if-early-ne0.false)

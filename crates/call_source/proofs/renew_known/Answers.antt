@@ -10,31 +10,47 @@ use Rattle.buffers.proofs.Calling.{refused}
 use Rattle.source.proofs.RenewedRecords.{renew-passes}
 use Rattle.source.specs.Renewal.{renew_lines}
 use Rattle.operations.specs.Used.{used_code, used_lines, UsedRecord, used_record}
+use Rattle.call_source.proofs.renew_known.Lts as lts
+use Rattle.call_source.proofs.renew_known.Reads as reads
+use Rattle.call_source.proofs.renew_known.Tie as tie
 use Rattle.call_source.proofs.renew_known.Goals as goal
 
+-- where the lemmas below stand
+abbrev AfterKnownRefusalEarly : Type 0
+AfterKnownRefusalEarly = lts.After-known_refusal reads.Pre reads.Post tie.handed_clauses
+
+abbrev ElseNQubit : Type 0
+ElseNQubit = lts.Else2 reads.Pre reads.Post tie.handed_clauses
+
+abbrev ElseNotBitAt : Type 0
+ElseNotBitAt = lts.Else3 reads.Pre reads.Post tie.handed_clauses
+
+abbrev Start : Type 0
+Start = lts.Start reads.Pre reads.Post tie.handed_clauses
+
 -- the record that is lent
-abbrev lent : goal.Start → UsedRecord
+abbrev lent : Start → UsedRecord
 lent S = used_record S.args.n S.args.neighbours.now S.args.codes.now S.args.used.now
 
-abbrev at : goal.After-known_refusal-early → goal.Start
-at E = E.before.before.before.before.before.before.before.before
+abbrev at : AfterKnownRefusalEarly → Start
+at E = E.before.before.before.before.before.before.before
 
 -- the number of the lines of the record and the code
-number : (E : goal.After-known_refusal-early)
+number : (E : AfterKnownRefusalEarly)
     → E.known_refusal-early.result ≡ first_fitting (used_lines (lent (at E)) false false (not (used_code (at E).args.code)))
 number E =
     E.known_refusal-early.ensures
     ∙ ap (λ b. first_fitting (used_lines (lent (at E)) false false b)) E.no_photon.ensures
 
 -- the tests of 8 and 20
-within : (D : goal.Else-n-qubit) → let a = (at D.before.before.before.before).args in leb a.n a.qubit ≡ false
-within D = let a = (at D.before.before.before).args in lt-leb a.n a.qubit D.if-n-qubit.false
+within : (D : ElseNQubit) → let a = (at D.before.before).args in leb a.n a.qubit ≡ false
+within D = let a = (at D.before.before).args in lt-leb a.n a.qubit D.if-n-qubit.false
 
 -- accepted
-passes : (D : goal.Else-not-bit_at) → let S = at D.before.before.before.before.before.before in
+passes : (D : ElseNotBitAt) → let S = at D.before.before.before.before in
     0 ≡ first_fitting (renew_lines (lent S) S.args.qubit S.args.code)
 passes D =
-    let U = D.before.before in
+    let U = D.before in
     let E = U.before.before.before in
     let S = at E in
     renew-0 (lent S) S.args.qubit S.args.code (number E) U.if-early-ne0.false (within U.before)
@@ -66,13 +82,13 @@ returns-then-not-bit_at c =
 pub bounds-codes-qubit : goal.bounds-codes-qubit
 bounds-codes-qubit c =
     let S = at c.before.before.before.before.before in
-    let F = renew-passes (lent S) S.args.qubit S.args.code (sym (passes c)) in
+    let F = renew-passes (lent S) S.args.qubit S.args.code (sym (passes c.before)) in
     omega (arith, F.below, F.held.codes-length)
 
 pub flip-requires : goal.flip-requires
 flip-requires c =
     let S = at c.before.before.before.before.before in
-    let F = renew-passes (lent S) S.args.qubit S.args.code (sym (passes c)) in
+    let F = renew-passes (lent S) S.args.qubit S.args.code (sym (passes c.before)) in
     omega (arith, F.below, F.held.upto)
 
 pub returns : goal.returns

@@ -1,10 +1,17 @@
 -- `forget` meets its contract: the place of the name made free.
 use Rattle.store.specs.Places.{Store}
 use Rattle.call_store.proofs.Named.{forget-done, forget-not-held, forget-refused, head-inside}
+use Rattle.call_store.proofs.forget.Lts as lts
+use Rattle.call_store.proofs.forget.Reads as reads
+use Rattle.call_store.proofs.forget.Tie as tie
 use Rattle.call_store.proofs.forget.Goals as goal
 
+-- where the lemmas below stand
+abbrev Start : Type 0
+Start = lts.Start reads.Pre reads.Post tie.handed_clauses
+
 -- the store that is lent
-abbrev store : goal.Start → Store
+abbrev store : Start → Store
 store S = record { heads = S.args.heads.now; neighbours = S.args.held_neighbours.now; codes = S.args.held_codes.now }
 
 pub returns-then-early-ne0 : goal.returns-then-early-ne0

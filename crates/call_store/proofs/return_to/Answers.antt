@@ -5,19 +5,29 @@ use Rattle.buffers.specs.Refusals.{first_fitting, other_than}
 use Rattle.store.specs.Places.{Store}
 use Rattle.store.specs.StoreLines.{store_lines}
 use Rattle.call_store.proofs.Named.{return-done, return-not-held, return_refused, take-fits}
+use Rattle.call_store.proofs.return_to.Lts as lts
+use Rattle.call_store.proofs.return_to.Reads as reads
+use Rattle.call_store.proofs.return_to.Tie as tie
 use Rattle.call_store.proofs.return_to.Goals as goal
 
+-- where the lemmas below stand
+abbrev AfterStoreRefusalEarly : Type 0
+AfterStoreRefusalEarly = lts.After-store_refusal reads.Pre reads.Post tie.handed_clauses
+
+abbrev Start : Type 0
+Start = lts.Start reads.Pre reads.Post tie.handed_clauses
+
 -- the store that is lent
-abbrev store : goal.Start → Store
+abbrev store : Start → Store
 store S = record { heads = S.args.heads.now; neighbours = S.args.held_neighbours.now; codes = S.args.held_codes.now }
 
 -- the first number, with line 4 of the two buffers
-early : (R : goal.After-store_refusal-early) → R.store_refusal-early.result
-    ≡ first_fitting (store_lines 8 (store R.before.before.before.before.before.before.before.before.before.before)
+early : (R : AfterStoreRefusalEarly) → R.store_refusal-early.result
+    ≡ first_fitting (store_lines 8 (store R.before.before.before.before.before.before.before.before)
     (other_than 64 R.args.neighbours.now
     || other_than 64 R.args.codes.now))
 early R =
-    let S = R.before.before.before.before.before.before.before.before.before in
+    let S = R.before.before.before.before.before.before.before.before in
     R.store_refusal-early.ensures ∙ ap (λ b. first_fitting (store_lines 8 (store S) b))
     (ap₂ ◌||◌ R.other_than.ensures R.other_than-2.ensures)
 

@@ -4,14 +4,21 @@ use Rattle.store.specs.Kept.{headed, placed_at}
 use Rattle.store.specs.Places.{Store}
 use Rattle.operations.specs.Used.{UsedRecord, used_record}
 use Rattle.call_store.proofs.Saving.{head-fits, record-fits, save-done, save-full, save-refused}
+use Rattle.call_store.proofs.save.Lts as lts
+use Rattle.call_store.proofs.save.Reads as reads
+use Rattle.call_store.proofs.save.Tie as tie
 use Rattle.call_store.proofs.save.Goals as goal
 
+-- where the lemmas below stand
+abbrev Start : Type 0
+Start = lts.Start reads.Pre reads.Post tie.handed_clauses
+
 -- the record that is lent
-abbrev lent : goal.Start → UsedRecord
+abbrev lent : Start → UsedRecord
 lent S = used_record S.args.n S.args.neighbours.now S.args.codes.now S.args.used
 
 -- the store that is lent
-abbrev store : goal.Start → Store
+abbrev store : Start → Store
 store S = record { heads = S.args.heads.now; neighbours = S.args.held_neighbours.now; codes = S.args.held_codes.now }
 
 pub returns-then-early-ne0 : goal.returns-then-early-ne0

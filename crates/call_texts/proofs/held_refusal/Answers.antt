@@ -6,10 +6,17 @@ use Rattle.operations.specs.Used.{UsedRecord}
 use Rattle.operations_checks.proofs.UsedNumbers.{no-further}
 use Rattle.stabilizer.proofs.SharedTests.{counted}
 use Rattle.call_texts.proofs.ReadCalls.{two}
+use Rattle.call_texts.proofs.held_refusal.Lts as lts
+use Rattle.call_texts.proofs.held_refusal.Reads as reads
+use Rattle.call_texts.proofs.held_refusal.Tie as tie
 use Rattle.call_texts.proofs.held_refusal.Goals as goal
 
+-- where the lemmas below stand
+abbrev Start : Type 0
+Start = lts.Start reads.Pre reads.Post tie.handed_clauses
+
 -- the record in the first n places
-abbrev lent : goal.Start → UsedRecord
+abbrev lent : Start → UsedRecord
 lent S =
     record {
       held = record {

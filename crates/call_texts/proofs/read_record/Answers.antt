@@ -4,16 +4,29 @@ use mathlib.Core.Path.{◌≡◌, ap₂}
 use borrow.Author.Tests.{not-false, not-true}
 use Rattle.buffers.specs.Refusals.{other_than}
 use Rattle.call_texts.proofs.ReadCalls.{read_done, read-refused, read-room, read-unformed}
+use Rattle.call_texts.proofs.read_record.Lts as lts
+use Rattle.call_texts.proofs.read_record.Reads as reads
+use Rattle.call_texts.proofs.read_record.Tie as tie
 use Rattle.call_texts.proofs.read_record.Goals as goal
 
-abbrev at : goal.After-read_text-read → goal.Start
-at R = R.before.before.before.before.before
+-- where the lemmas below stand
+abbrev AfterOtherThan2 : Type 0
+AfterOtherThan2 = lts.After-other_than2 reads.Pre reads.Post tie.handed_clauses
 
-abbrev read : goal.After-other_than-2 → goal.After-read_text-read
-read O = O.before.before.before.before.before.before
+abbrev AfterReadTextRead : Type 0
+AfterReadTextRead = lts.After-read_text reads.Pre reads.Post tie.handed_clauses
+
+abbrev Start : Type 0
+Start = lts.Start reads.Pre reads.Post tie.handed_clauses
+
+abbrev at : AfterReadTextRead → Start
+at R = R.before.before.before.before
+
+abbrev read : AfterOtherThan2 → AfterReadTextRead
+read O = O.before.before.before.before.before
 
 -- line 4 of the two buffers
-others-are : (O : goal.After-other_than-2) → let a = (at (read O)).args in
+others-are : (O : AfterOtherThan2) → let a = (at (read O)).args in
     (O.other_than.result || O.other_than-2.result)
     ≡ (other_than 64 a.neighbours.now || other_than 64 a.codes.now)
 others-are O = ap₂ ◌||◌ O.other_than.ensures O.other_than-2.ensures

@@ -1,14 +1,24 @@
 -- `write_record` meets its contract: the text of a record, and how many bytes it has.
 use Rattle.operations.specs.Used.{UsedRecord, used_record}
 use Rattle.call_texts.proofs.WriteCalls.{write_done, write-refused, write-room}
+use Rattle.call_texts.proofs.write_record.Lts as lts
+use Rattle.call_texts.proofs.write_record.Reads as reads
+use Rattle.call_texts.proofs.write_record.Tie as tie
 use Rattle.call_texts.proofs.write_record.Goals as goal
 
+-- where the lemmas below stand
+abbrev AfterUsedRefusalEarly : Type 0
+AfterUsedRefusalEarly = lts.After-used_refusal reads.Pre reads.Post tie.handed_clauses
+
+abbrev Start : Type 0
+Start = lts.Start reads.Pre reads.Post tie.handed_clauses
+
 -- the record that is lent
-abbrev lent : goal.Start → UsedRecord
+abbrev lent : Start → UsedRecord
 lent S = used_record S.args.n S.args.neighbours.now S.args.codes.now S.args.used
 
-abbrev at : goal.After-used_refusal-early → goal.Start
-at E = E.before.before.before.before.before.before
+abbrev at : AfterUsedRefusalEarly → Start
+at E = E.before.before.before.before.before
 
 pub returns-then-early-ne0 : goal.returns-then-early-ne0
 returns-then-early-ne0 c =

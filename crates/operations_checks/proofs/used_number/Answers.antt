@@ -5,13 +5,20 @@ use lib.Dec.{leb}
 use Rattle.stabilizer.proofs.EarlyLines.{either-says}
 use Rattle.operations.specs.Used.{UsedRecord, used_record}
 use Rattle.operations_checks.proofs.UsedNumbers.{number-0, number-2, number-4, number-5, number-7, number-other, vertices-tested, word-tested}
+use Rattle.operations_checks.proofs.used_number.Lts as lts
+use Rattle.operations_checks.proofs.used_number.Reads as reads
+use Rattle.operations_checks.proofs.used_number.Tie as tie
 use Rattle.operations_checks.proofs.used_number.Goals as goal
 
+-- where the lemmas below stand
+abbrev Start : Type 0
+Start = lts.Start reads.Pre reads.Post tie.handed_clauses
+
 -- the record that is lent, and whether the further word has a bit at or above n
-abbrev lent : goal.Start → UsedRecord
+abbrev lent : Start → UsedRecord
 lent S = used_record S.args.n S.args.neighbours.now S.args.codes.now S.args.used
 
-abbrev five : goal.Start → Bool
+abbrev five : Start → Bool
 five S = leb (2 ^ S.args.n) S.args.word
 
 pub returns-then-number-eq2 : goal.returns-then-number-eq2

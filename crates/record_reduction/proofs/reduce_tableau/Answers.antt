@@ -34,7 +34,14 @@ use Rattle.words.proofs.Finite.{bits}
 use Rattle.words.proofs.Places.{put_other}
 use Rattle.words.specs.Bits.{Word, bit, digit, is_odd, ◌⊕◌}
 use Rattle.record_reduction.proofs.Rounds.{Both, Stage, both-complete, both-left-over, end-record, end-within, first_round, second-round, stage-loaded, stage-start, stage-turned}
+use Rattle.record_reduction.proofs.reduce_tableau.Lts as lts
+use Rattle.record_reduction.proofs.reduce_tableau.Reads as reads
+use Rattle.record_reduction.proofs.reduce_tableau.Tie as tie
 use Rattle.record_reduction.proofs.reduce_tableau.Goals as goal
+
+-- where the lemmas below stand
+abbrev Start : Type 0
+Start = lts.Start reads.Pre reads.Post goal.the-invariant-loop-k goal.the-decreases-loop-k goal.the-invariant-loop-j goal.the-decreases-loop-j goal.the-invariant-loop-rest goal.the-decreases-loop-rest goal.the-invariant-loop-q goal.the-decreases-loop-q goal.the-invariant-loop-i goal.the-decreases-loop-i goal.the-invariant-loop-round goal.the-decreases-loop-round tie.handed_clauses
 
 -- a bit by shift and mask
 low_bit : (w q : ℕ) → bit_and (w / 2 ^ q) 1 ≡ digit (bit w q)
@@ -118,10 +125,10 @@ AfterLoop2 = tie.After-loop2 invariant-loop decreases-loop invariant-loop4 decre
     decreases-loop2
 
 -- ---- places and what they have
-abbrev start-2 : AtLoop2 → goal.Start
+abbrev start-2 : AtLoop2 → Start
 start-2 c = c.before.before.before.before.before.before
 
-abbrev start-3 : InLoop3 → goal.Start
+abbrev start-3 : InLoop3 → Start
 start-3 c = start-2 c.before.before.before
 
 -- the column's turn

@@ -9,17 +9,27 @@ use Rattle.operations.specs.Used.{used_lines_of, UsedRecord, used_record}
 use Rattle.calls.proofs.InPlaceCalls.{as_before, in-place-done}
 use Rattle.calls.proofs.InPlaceLines.{complement-ready}
 use Rattle.calls.proofs.UsedInPlace.{named-as}
+use Rattle.call_gates.proofs.complement.complement_known.Lts as lts
+use Rattle.call_gates.proofs.complement.complement_known.Reads as reads
+use Rattle.call_gates.proofs.complement.complement_known.Tie as tie
 use Rattle.call_gates.proofs.complement.complement_known.Goals as goal
 
+-- where the lemmas below stand
+abbrev AfterInPlaceRefusalEarly : Type 0
+AfterInPlaceRefusalEarly = lts.After-in_place_refusal reads.Pre reads.Post tie.handed_clauses
+
+abbrev Start : Type 0
+Start = lts.Start reads.Pre reads.Post tie.handed_clauses
+
 -- the record that is lent
-abbrev lent : goal.Start → UsedRecord
+abbrev lent : Start → UsedRecord
 lent S = used_record S.args.n S.args.neighbours.now S.args.codes.now S.args.used
 
-abbrev asked : goal.Start → Operation
+abbrev asked : Start → Operation
 asked S = complement_of S.args.a
 
 -- the number of its lines
-number : (E : goal.After-in_place_refusal-early)
+number : (E : AfterInPlaceRefusalEarly)
     → E.in_place_refusal-early.result ≡ first_fitting (used_lines_of (lent E.before.before.before.before.before.before)
     (asked E.before.before.before.before.before.before))
 number E =

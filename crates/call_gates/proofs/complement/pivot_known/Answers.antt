@@ -10,14 +10,24 @@ use Rattle.calls.proofs.UsedInPlace.{edge-accepts, no-edge-refuses, pair-before,
 use Rattle.buffers.proofs.Calling.{refused}
 use Rattle.operations.specs.Steps.{pivot_of}
 use Rattle.operations.specs.Used.{UsedRecord, used_record}
+use Rattle.call_gates.proofs.complement.pivot_known.Lts as lts
+use Rattle.call_gates.proofs.complement.pivot_known.Reads as reads
+use Rattle.call_gates.proofs.complement.pivot_known.Tie as tie
 use Rattle.call_gates.proofs.complement.pivot_known.Goals as goal
 
+-- where the lemmas below stand
+abbrev ElseEarlyNe0 : Type 0
+ElseEarlyNe0 = lts.Else1 reads.Pre reads.Post tie.handed_clauses
+
+abbrev Start : Type 0
+Start = lts.Start reads.Pre reads.Post tie.handed_clauses
+
 -- the record that is lent
-abbrev lent : goal.Start → UsedRecord
+abbrev lent : Start → UsedRecord
 lent S = used_record S.args.n S.args.neighbours.now S.args.codes.now S.args.used
 
 -- no line of the pair holds
-paired : (D : goal.Else-early-ne0) → let S = D.before.before.before.before.before.before in
+paired : (D : ElseEarlyNe0) → let S = D.before.before.before.before.before.before in
     first_fitting (pair_lines (lent S).held S.args.j S.args.k) ≡ 0
 paired D =
     let E = D.before in

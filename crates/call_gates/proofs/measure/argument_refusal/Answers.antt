@@ -3,10 +3,17 @@ use mathlib.Core.Bool.{◌||◌}
 use lib.Dec.{eqb, leb}
 use Rattle.calls.proofs.UsedInPlace.{named-as}
 use Rattle.operations.specs.Used.{UsedRecord, used_record}
+use Rattle.call_gates.proofs.measure.argument_refusal.Lts as lts
+use Rattle.call_gates.proofs.measure.argument_refusal.Reads as reads
+use Rattle.call_gates.proofs.measure.argument_refusal.Tie as tie
 use Rattle.call_gates.proofs.measure.argument_refusal.Goals as goal
 
+-- where the lemmas below stand
+abbrev Start : Type 0
+Start = lts.Start reads.Pre reads.Post tie.handed_clauses
+
 -- the record that is lent
-abbrev lent : goal.Start → UsedRecord
+abbrev lent : Start → UsedRecord
 lent S = used_record S.args.n S.args.neighbours.now S.args.codes.now S.args.used
 
 pub returns : goal.returns

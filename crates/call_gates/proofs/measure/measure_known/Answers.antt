@@ -11,20 +11,30 @@ use Rattle.buffers.proofs.Calling.{refused}
 use Rattle.operations.specs.Steps.{Operation, lines_of, measurement_of}
 use Rattle.operations.proofs.AcceptedSteps.{accepted-step, measure-arguments}
 use Rattle.operations.specs.Used.{UsedRecord, used_record}
+use Rattle.call_gates.proofs.measure.measure_known.Lts as lts
+use Rattle.call_gates.proofs.measure.measure_known.Reads as reads
+use Rattle.call_gates.proofs.measure.measure_known.Tie as tie
 use Rattle.call_gates.proofs.measure.measure_known.Goals as goal
 
+-- where the lemmas below stand
+abbrev ElseEarlyNe0 : Type 0
+ElseEarlyNe0 = lts.Else1 reads.Pre reads.Post tie.handed_clauses
+
+abbrev Start : Type 0
+Start = lts.Start reads.Pre reads.Post tie.handed_clauses
+
 -- the record that is lent
-abbrev lent : goal.Start → UsedRecord
+abbrev lent : Start → UsedRecord
 lent S = used_record S.args.n S.args.neighbours.now S.args.codes.now S.args.used.now
 
-abbrev asked : goal.Start → Operation
+abbrev asked : Start → Operation
 asked S = measurement_of S.args.pauli S.args.qubit S.args.outcome
 
 -- accepted, no line held without the used word
-before : (D : goal.Else-early-ne0) → let S = D.before.before.before.before.before.before.before.before.before in
+before : (D : ElseEarlyNe0) → let S = D.before.before.before.before.before.before.before in
     first_fitting (lines_of (lent S).held (asked S)) ≡ 0
 before D =
-    let E = D.before.before in
+    let E = D.before in
     let S = E.before.before.before.before.before.before in
     as_before (lent S) (asked S) E.measure_refusal-early.ensures D.if-early-ne0.false
 

@@ -4,10 +4,17 @@ use mathlib.Core.Path.{sym, ◌∙◌}
 use Rattle.calls.proofs.InPlaceLines.{measure-ready}
 use Rattle.calls.proofs.MeasureLines.{arguments-before, arguments-refuse, then-14, then-none}
 use Rattle.operations.specs.Used.{UsedRecord, used_record}
+use Rattle.call_gates.proofs.measure.measure_refusal.Lts as lts
+use Rattle.call_gates.proofs.measure.measure_refusal.Reads as reads
+use Rattle.call_gates.proofs.measure.measure_refusal.Tie as tie
 use Rattle.call_gates.proofs.measure.measure_refusal.Goals as goal
 
+-- where the lemmas below stand
+abbrev Start : Type 0
+Start = lts.Start reads.Pre reads.Post tie.handed_clauses
+
 -- the record that is lent
-abbrev lent : goal.Start → UsedRecord
+abbrev lent : Start → UsedRecord
 lent S = used_record S.args.n S.args.neighbours.now S.args.codes.now S.args.used
 
 pub returns-then-early-ne0 : goal.returns-then-early-ne0

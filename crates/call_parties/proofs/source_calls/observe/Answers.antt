@@ -9,19 +9,29 @@ use Rattle.parties_impl.proofs.EarlyNumbers.{other-as}
 use Rattle.parties_impl.specs.internal.BeforeEight.{before_eight}
 use Rattle.source.proofs.ObservedParties.{observed_six}
 use Rattle.call_parties.proofs.PartySourceCalls.{observe-admitted, observe-early}
+use Rattle.call_parties.proofs.source_calls.observe.Lts as lts
+use Rattle.call_parties.proofs.source_calls.observe.Reads as reads
+use Rattle.call_parties.proofs.source_calls.observe.Tie as tie
 use Rattle.call_parties.proofs.source_calls.observe.Goals as goal
 
+-- where the lemmas below stand
+abbrev AfterPartyRefusalEarly : Type 0
+AfterPartyRefusalEarly = lts.After-party_refusal reads.Pre reads.Post tie.handed_clauses
+
+abbrev Start : Type 0
+Start = lts.Start reads.Pre reads.Post tie.handed_clauses
+
 -- the record that is lent
-abbrev lent : goal.Start → UsedRecord
+abbrev lent : Start → UsedRecord
 lent S = used_record S.args.n S.args.neighbours.now S.args.codes.now S.args.used.now
 
 -- the number of the lines before 8
-number : (E : goal.After-party_refusal-early) → let S = E.before.before.before.before.before.before.before.before.before in
+number : (E : AfterPartyRefusalEarly) → let S = E.before.before.before.before.before.before.before in
     E.party_refusal-early.result ≡ first_fitting (before_eight S.args.word S.args.party (lent S)
     (observed_six S.args.pauli S.args.bit) (outsider (in_party S.args.word S.args.party) S.args.n
     S.args.qubit))
 number E =
-    let O = E.before.before.before.before.before in
+    let O = E.before.before.before.before in
     let S = O.before.before.before in
     other-as S.args.word S.args.party (lent S) (observed_six S.args.pauli S.args.bit)
     E.party_refusal-early.ensures O.outside.ensures

@@ -9,22 +9,32 @@ use Rattle.parties.specs.PartyLines.{outsider}
 use Rattle.parties.specs.Masks.{in_party}
 use Rattle.operations.specs.Used.{used_code, UsedRecord, used_record}
 use Rattle.call_parties.proofs.PartySourceCalls.{renew-admitted, renew-early-party, renew-whole}
+use Rattle.call_parties.proofs.source_calls.renew.Lts as lts
+use Rattle.call_parties.proofs.source_calls.renew.Reads as reads
+use Rattle.call_parties.proofs.source_calls.renew.Tie as tie
 use Rattle.call_parties.proofs.source_calls.renew.Goals as goal
 
+-- where the lemmas below stand
+abbrev AfterPartyRefusalEarly : Type 0
+AfterPartyRefusalEarly = lts.After-party_refusal reads.Pre reads.Post tie.handed_clauses
+
+abbrev Start : Type 0
+Start = lts.Start reads.Pre reads.Post tie.handed_clauses
+
 -- the record that is lent
-abbrev lent : goal.Start → UsedRecord
+abbrev lent : Start → UsedRecord
 lent S = used_record S.args.n S.args.neighbours.now S.args.codes.now S.args.used.now
 
-abbrev at : goal.After-party_refusal-early → goal.Start
-at E = E.before.before.before.before.before.before.before.before.before
+abbrev at : AfterPartyRefusalEarly → Start
+at E = E.before.before.before.before.before.before.before.before
 
 -- the number of the lines before 8
-number : (E : goal.After-party_refusal-early) → let S = at E in
+number : (E : AfterPartyRefusalEarly) → let S = at E in
     E.party_refusal-early.result ≡ first_fitting (before_eight S.args.word S.args.party (lent S)
     (not (used_code S.args.code))
     (outsider (in_party S.args.word S.args.party) S.args.n S.args.qubit))
 number E =
-    let N = E.before.before.before.before.before in
+    let N = E.before.before.before.before in
     let S = at E in
     let a = S.args in
     other-as a.word a.party (lent S) (not (used_code a.code))

@@ -2,14 +2,21 @@
 use Rattle.store.specs.Places.{Store}
 use Rattle.operations.specs.Used.{UsedRecord, used_record}
 use Rattle.call_parties.proofs.Answering.{put-fits, save-done, save-full, save-refused, search-fits}
+use Rattle.call_parties.proofs.stores.save.Lts as lts
+use Rattle.call_parties.proofs.stores.save.Reads as reads
+use Rattle.call_parties.proofs.stores.save.Tie as tie
 use Rattle.call_parties.proofs.stores.save.Goals as goal
 
+-- where the lemmas below stand
+abbrev Start : Type 0
+Start = lts.Start reads.Pre reads.Post tie.handed_clauses
+
 -- the record that is lent
-abbrev lent : goal.Start → UsedRecord
+abbrev lent : Start → UsedRecord
 lent S = used_record S.args.n S.args.neighbours.now S.args.codes.now S.args.used
 
 -- the store that is lent
-abbrev store : goal.Start → Store
+abbrev store : Start → Store
 store S = record { heads = S.args.heads.now; neighbours = S.args.held_neighbours.now; codes = S.args.held_codes.now }
 
 pub returns-then-early-ne0 : goal.returns-then-early-ne0

@@ -5,14 +5,21 @@ use Rattle.parties_impl.proofs.OwnWords.{crosses-reads}
 use Rattle.store.specs.Places.{Store}
 use Rattle.operations.specs.Used.{UsedRecord, used_record}
 use Rattle.call_parties.proofs.Sharing.{shared-2, shared-early, shared_last, words-fit}
+use Rattle.call_parties.proofs.stores.shared_refusal.Lts as lts
+use Rattle.call_parties.proofs.stores.shared_refusal.Reads as reads
+use Rattle.call_parties.proofs.stores.shared_refusal.Tie as tie
 use Rattle.call_parties.proofs.stores.shared_refusal.Goals as goal
 
+-- where the lemmas below stand
+abbrev Start : Type 0
+Start = lts.Start reads.Pre reads.Post tie.handed_clauses
+
 -- the record that is lent
-abbrev lent : goal.Start → UsedRecord
+abbrev lent : Start → UsedRecord
 lent S = used_record S.args.n S.args.neighbours.now S.args.codes.now S.args.used
 
 -- the store that is lent
-abbrev store : goal.Start → Store
+abbrev store : Start → Store
 store S = record { heads = S.args.heads.now; neighbours = S.args.held_neighbours.now; codes = S.args.held_codes.now }
 
 pub returns-then-n-ne64 : goal.returns-then-n-ne64

@@ -4,21 +4,31 @@ use mathlib.Core.Path.{◌≡◌, ap₂}
 use Rattle.buffers.specs.Refusals.{other_than}
 use Rattle.operations.specs.Used.{UsedRecord, used_record}
 use Rattle.call_readings.proofs.Records.{accepted-held, expand-accepted, expand-refused, signs-fit, x-fit, z-fit}
+use Rattle.call_readings.proofs.expansions.expand.Lts as lts
+use Rattle.call_readings.proofs.expansions.expand.Reads as reads
+use Rattle.call_readings.proofs.expansions.expand.Tie as tie
 use Rattle.call_readings.proofs.expansions.expand.Goals as goal
 
+-- where the lemmas below stand
+abbrev AfterOtherThan3 : Type 0
+AfterOtherThan3 = lts.After-other_than3 reads.Pre reads.Post tie.handed_clauses
+
+abbrev Start : Type 0
+Start = lts.Start reads.Pre reads.Post tie.handed_clauses
+
 -- the record that is lent
-abbrev lent : goal.Start → UsedRecord
+abbrev lent : Start → UsedRecord
 lent S = used_record S.args.n S.args.neighbours.now S.args.codes.now S.args.used
 
 -- line 4 of the three buffers
-abbrev others : goal.Start → Bool
+abbrev others : Start → Bool
 others S =
     let a = S.args in
     other_than a.n a.signs.now || (other_than a.n a.z.now || other_than a.n a.x.now)
 
-others-are : (O : goal.After-other_than-3)
+others-are : (O : AfterOtherThan3)
     → (O.other_than.result || (O.other_than-2.result || O.other_than-3.result))
-    ≡ others O.before.before.before.before.before.before.before.before.before.before
+    ≡ others O.before.before.before.before.before.before.before.before
 others-are O =
     ap₂ ◌||◌ O.other_than.ensures
     (ap₂ ◌||◌ O.other_than-2.ensures O.other_than-3.ensures)

@@ -3,10 +3,17 @@ use mathlib.Core.Path.{refl, sym, ◌∙◌}
 use Rattle.buffers.proofs.Calling.{done, refused}
 use Rattle.operations.specs.Used.{UsedRecord, used_record}
 use Rattle.calls.proofs.ExpectationLines.{accepted-row, words-joined}
+use Rattle.call_readings.proofs.expectations.expectation.Lts as lts
+use Rattle.call_readings.proofs.expectations.expectation.Reads as reads
+use Rattle.call_readings.proofs.expectations.expectation.Tie as tie
 use Rattle.call_readings.proofs.expectations.expectation.Goals as goal
 
+-- where the lemmas below stand
+abbrev Start : Type 0
+Start = lts.Start reads.Pre reads.Post tie.handed_clauses
+
 -- the record that is lent
-abbrev lent : goal.Start → UsedRecord
+abbrev lent : Start → UsedRecord
 lent S = used_record S.args.n S.args.neighbours.now S.args.codes.now S.args.used
 
 pub returns-then-number-ne0 : goal.returns-then-number-ne0

@@ -8,7 +8,14 @@ use Rattle.operations.proofs.UnrefusedRecords.{accepted-unrefused}
 use Rattle.record.specs.Accepted.{AcceptedRecord}
 use Rattle.record.specs.Lent.{LentRecord, lent_record}
 use Rattle.call_readings.proofs.ImageCalls.{accepted-held, graph-upto, image-accepted, image-looped, image-refused, list-has-room, signs-upto}
+use Rattle.call_readings.proofs.images.image.Lts as lts
+use Rattle.call_readings.proofs.images.image.Reads as reads
+use Rattle.call_readings.proofs.images.image.Tie as tie
 use Rattle.call_readings.proofs.images.image.Goals as goal
+
+-- where the lemmas below stand
+abbrev ElseEarlyNe0 : Type 0
+ElseEarlyNe0 = lts.Else1 reads.Pre reads.Post tie.handed_clauses
 
 pub returns-then-early-ne0 : goal.returns-then-early-ne0
 returns-then-early-ne0 c =
@@ -22,11 +29,11 @@ returns-then-early-ne0 c =
     E.record_refusal-early.ensures c.if-early-ne0.true
 
 -- the record is accepted where nothing has refused
-accepted : (c : goal.Else-early-ne0) → let O = c.before.before.before.before in
+accepted : (c : ElseEarlyNe0) → let O = c.before.before in
     let a = O.args in
-    AcceptedRecord (lent_record O.args.n O.args.neighbours.now O.args.codes.now)
+    AcceptedRecord (lent_record a.n a.neighbours.now a.codes.now)
 accepted c =
-    let E = c.before.before in
+    let E = c.before in
     let O = E.before in
     let a = O.args in
     let l : LentRecord = lent_record a.n a.neighbours.now a.codes.now in
@@ -36,7 +43,7 @@ accepted c =
     E.record_refusal-early.ensures c.if-early-ne0.false
 
 pub slice_bounds-graph-end : goal.slice_bounds-graph-end
-slice_bounds-graph-end c = (accepted c).upto
+slice_bounds-graph-end c = (accepted c.before).upto
 
 pub slice_bounds-image_in-end : goal.slice_bounds-image_in-end
 slice_bounds-image_in-end c = sym (part-long _ _ (accepted c.before.before).upto refl)

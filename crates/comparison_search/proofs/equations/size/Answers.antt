@@ -3,9 +3,16 @@ use Prim.Native.Nat.{◌<◌, ◌^◌}
 use native.Mathlib.Omega.{arith}
 use lib.Count.{leading_le}
 use Rattle.comparison_search.proofs.WordSizes.{size_is}
+use Rattle.comparison_search.proofs.equations.size.Lts as lts
+use Rattle.comparison_search.proofs.equations.size.Reads as reads
+use Rattle.comparison_search.proofs.equations.size.Tie as tie
 use Rattle.comparison_search.proofs.equations.size.Goals as goal
 
-fits : (c : goal.Start) → c.args.w < 2 ^ 64
+-- where the lemmas below stand
+abbrev Start : Type 0
+Start = lts.Start reads.Pre reads.Post tie.handed_clauses
+
+fits : (c : Start) → c.args.w < 2 ^ 64
 fits c = omega (arith, c.ranges.w)
 
 pub overflow_cast-result : goal.overflow_cast-result

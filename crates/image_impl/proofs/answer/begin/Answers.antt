@@ -5,14 +5,21 @@ use Prim.Native.Nat.{◌-◌, ℕ}
 use native.Mathlib.Omega.{arith}
 use Rattle.clifford.specs.Clifford.{bit_c, bit_d}
 use Rattle.image_impl.proofs.CodeBits.{begun, bits_none, bits-one}
+use Rattle.image_impl.proofs.answer.begin.Lts as lts
+use Rattle.image_impl.proofs.answer.begin.Reads as reads
+use Rattle.image_impl.proofs.answer.begin.Tie as tie
 use Rattle.image_impl.proofs.answer.begin.Goals as goal
 
+-- where the lemmas below stand
+abbrev AfterSharedSliceKnown1 : Type 0
+AfterSharedSliceKnown1 = lts.After-shared_slice_known reads.Pre reads.Post goal.the-invariant-loop-q goal.the-decreases-loop-q tie.handed_clauses
+
 -- the codes
-abbrev codes : goal.After-shared_slice_known-1 → List ℕ
+abbrev codes : AfterSharedSliceKnown1 → List ℕ
 codes c = c.args.codes.now
 
 pub loop-q-init : goal.loop-q-init
-loop-q-init c = (bits_none (codes c) bit_c, bits_none (codes c) bit_d)
+loop-q-init c = (bits_none (codes c.before) bit_c, bits_none (codes c.before) bit_d)
 
 pub c_bit-requires : goal.c_bit-requires
 c_bit-requires c = c.requires.1 c.loop-q.q

@@ -6,7 +6,14 @@ use lib.ListN.{length}
 use Rattle.image_impl.proofs.TrackedRecords.{tracked-codes}
 use Rattle.operations.proofs.UnrefusedRecords.{copied-unrefused, unrefused-codes, unrefused-long, unrefused-short}
 use Rattle.image_impl.proofs.Answering.{answered, copied-image}
+use Rattle.image_impl.proofs.answer.image_in.Lts as lts
+use Rattle.image_impl.proofs.answer.image_in.Reads as reads
+use Rattle.image_impl.proofs.answer.image_in.Tie as tie
 use Rattle.image_impl.proofs.answer.image_in.Goals as goal
+
+-- where the lemmas below stand
+abbrev AfterActionOfLeft : Type 0
+AfterActionOfLeft = lts.After-action_of reads.Pre reads.Post tie.handed_clauses
 
 pub copy_record-requires : goal.copy_record-requires
 copy_record-requires c = let s = c.before.before.before.before.before.before.before.before in record { codes_len = unrefused-long _ _ s.requires.unrefused; words_len = (s.requires.words_len.0, s.requires.words_len.1) }
@@ -53,10 +60,10 @@ shape_of-bytes c =
     ∙ ap length copied.copy-record.ensures.0 ∙ sym s.pre.1.1
 
 -- words of 64 bits
-b-below : (c : goal.After-action_of-left) → c.action_of-left.result.b < 2 ^ 64
+b-below : (c : AfterActionOfLeft) → c.action_of-left.result.b < 2 ^ 64
 b-below c = omega arith
 
-sz-below : (c : goal.After-action_of-left) → c.action_of-left.result.sz < 2 ^ 64
+sz-below : (c : AfterActionOfLeft) → c.action_of-left.result.sz < 2 ^ 64
 sz-below c = omega arith
 
 pub returns : goal.returns

@@ -6,10 +6,17 @@ use lib.Dec.{ltb}
 use mathlib.Core.Bool.{and-eq-true_iff}
 use mathlib.Core.Path.{sym, ◌∙◌}
 use native.Mathlib.Omega.{arith}
+use Rattle.jobs_impl.proofs.fields.more_step.Lts as lts
+use Rattle.jobs_impl.proofs.fields.more_step.Reads as reads
+use Rattle.jobs_impl.proofs.fields.more_step.Tie as tie
 use Rattle.jobs_impl.proofs.fields.more_step.Goals as goal
 
+-- where the lemmas below stand
+abbrev ThenV : Type 0
+ThenV = lts.Then2 reads.Pre reads.Post tie.handed_clauses
+
 -- the number has fewer than three digits
-short : (c : goal.Then-v) → c.args.s.number < 100
+short : (c : ThenV) → c.args.s.number < 100
 short c =
     let v = c.args.s.number in
     ltb-true v 100 ((and-eq-true_iff (ltb 0 v) (ltb v 100)).0 c.if-v.true).1

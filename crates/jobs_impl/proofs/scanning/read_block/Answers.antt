@@ -13,26 +13,33 @@ use Rattle.jobs.proofs.OneByte.{feed-kept, feed-stored}
 use Rattle.jobs.specs.internal.Scan.{as_reading, fed, feed}
 use Rattle.text.proofs.Feeding.{fed-more}
 use Rattle.text.specs.internal.Feeding.{fed_bytes}
+use Rattle.jobs_impl.proofs.scanning.read_block.Lts as lts
+use Rattle.jobs_impl.proofs.scanning.read_block.Reads as reads
+use Rattle.jobs_impl.proofs.scanning.read_block.Tie as tie
 use Rattle.jobs_impl.proofs.scanning.read_block.Goals as goal
+
+-- where the lemmas below stand
+abbrev AfterStepOfStep : Type 0
+AfterStepOfStep = lts.After-step_of reads.Pre reads.Post goal.the-invariant-loop-i goal.the-decreases-loop-i tie.handed_clauses
 
 pub loop-i-init : goal.loop-i-init
 unfolding fed_bytes
 loop-i-init c = (zero-le, refl)
 
 -- the step is one of the first 4,096
-kept-below : (c : goal.After-step_of-step) → c.loop-i.scan.count <
+kept-below : (c : AfterStepOfStep) → c.loop-i.scan.count <
     4096
 kept-below c =
-    let branch = c.before.before in
+    let branch = c.before in
     let row = branch.loop-i.scan.count in
     ltb-true row 4096
     ((and-eq-true_iff (ltb row branch.scan_byte-next.result.count) (ltb row 4096)).0 branch.if-row-count.true).1
 
 pub offset_bounds-steps-row : goal.offset_bounds-steps-row
-offset_bounds-steps-row c = omega (arith, kept-below c)
+offset_bounds-steps-row c = omega (arith, kept-below c.before)
 
 pub bounds-steps-row : goal.bounds-steps-row
-bounds-steps-row c = kept-below c
+bounds-steps-row c = kept-below c.before
 
 pub loop-i-smaller : goal.loop-i-smaller
 loop-i-smaller c = omega (arith, c.loop-i-test.true)

@@ -5,13 +5,23 @@ use native.Mathlib.Omega.{arith}
 use Rattle.jobs.proofs.TextAnswers.{accepted-small, verdict-small}
 use Rattle.jobs.specs.internal.Scan.{Reading, as_reading}
 use Rattle.jobs_replies.proofs.Responses.{job-responds, refusal-responds}
+use Rattle.jobs_replies.proofs.answers.job_reply.Lts as lts
+use Rattle.jobs_replies.proofs.answers.job_reply.Reads as reads
+use Rattle.jobs_replies.proofs.answers.job_reply.Tie as tie
 use Rattle.jobs_replies.proofs.answers.job_reply.Goals as goal
 
--- before the text was judged, and the reading there
-abbrev begun : goal.After-judge-number → goal.Start
-begun J = J.before.before.before.before
+-- where the lemmas below stand
+abbrev AfterJudgeNumber : Type 0
+AfterJudgeNumber = lts.After-judge reads.Pre reads.Post tie.handed_clauses
 
-abbrev held : goal.Start → Reading
+abbrev Start : Type 0
+Start = lts.Start reads.Pre reads.Post tie.handed_clauses
+
+-- before the text was judged, and the reading there
+abbrev begun : AfterJudgeNumber → Start
+begun J = J.before.before.before
+
+abbrev held : Start → Reading
 held S = as_reading S.args.read.scan S.args.read.steps
 
 pub print_refusal-requires : goal.print_refusal-requires

@@ -4,13 +4,23 @@ use lib.ListN.{length, take}
 use lib.Seq.{length-take-le}
 use native.Mathlib.Omega.{arith}
 use Rattle.jobs_replies.proofs.Starting.{all-printed, record-printable, start-unrefused}
+use Rattle.jobs_replies.proofs.answers.print_run.Lts as lts
+use Rattle.jobs_replies.proofs.answers.print_run.Reads as reads
+use Rattle.jobs_replies.proofs.answers.print_run.Tie as tie
 use Rattle.jobs_replies.proofs.answers.print_run.Goals as goal
 
--- before the steps ran
-abbrev begun : goal.After-run-used → goal.Start
-begun R = R.before.before.before.before.before.before.before.before.before
+-- where the lemmas below stand
+abbrev AfterRunUsed : Type 0
+AfterRunUsed = lts.After-run reads.Pre reads.Post tie.handed_clauses
 
-all : (S : goal.Start) → length (take S.args.count S.args.steps) ≡ S.args.count
+abbrev Start : Type 0
+Start = lts.Start reads.Pre reads.Post tie.handed_clauses
+
+-- before the steps ran
+abbrev begun : AfterRunUsed → Start
+begun R = R.before.before.before.before.before.before.before.before
+
+all : (S : Start) → length (take S.args.count S.args.steps) ≡ S.args.count
 all S = length-take-le S.args.count S.args.steps (omega (arith, S.requires.few, S.well_formed.1.1.1.0.1))
 
 pub run-used-requires : goal.run-used-requires

@@ -5,20 +5,30 @@ use lib.Seq.{length-take-le}
 use native.Mathlib.Omega.{arith}
 use Rattle.call_run.proofs.LastRecord.{first-ready, last-ready, last-settled}
 use Rattle.operations.specs.Used.{UsedRecord, used_record}
+use Rattle.jobs_replies.proofs.answers.run.Lts as lts
+use Rattle.jobs_replies.proofs.answers.run.Reads as reads
+use Rattle.jobs_replies.proofs.answers.run.Tie as tie
 use Rattle.jobs_replies.proofs.answers.run.Goals as goal
 
+-- where the lemmas below stand
+abbrev AfterRunStepsUsed : Type 0
+AfterRunStepsUsed = lts.After-run_steps reads.Pre reads.Post tie.handed_clauses
+
+abbrev Start : Type 0
+Start = lts.Start reads.Pre reads.Post tie.handed_clauses
+
 -- the record that is lent
-abbrev lent : goal.Start → UsedRecord
+abbrev lent : Start → UsedRecord
 lent S = used_record S.args.n S.args.neighbours.now S.args.codes.now 0
 
-all : (S : goal.Start) → length (take S.args.count S.args.steps) ≡ S.args.count
+all : (S : Start) → length (take S.args.count S.args.steps) ≡ S.args.count
 all S = length-take-le S.args.count S.args.steps (omega (arith, S.requires.0, S.well_formed.1.1.1.0.1))
 
 -- after the last step, and before the first
-abbrev ran : tie.After-settle-last-arg3 → goal.After-run_steps-used
+abbrev ran : tie.After-settle-last-arg3 → AfterRunStepsUsed
 ran c = c.before.before.before.before.before.before.before.before.before
 
-abbrev begun : goal.After-run_steps-used → goal.Start
+abbrev begun : AfterRunStepsUsed → Start
 begun R = R.before.before.before.before.before.before.before
 
 pub run_steps-used-requires : goal.run_steps-used-requires

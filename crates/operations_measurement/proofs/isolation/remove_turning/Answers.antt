@@ -11,7 +11,14 @@ use Rattle.operations_rewriting.proofs.PuttingBefore.{put-end, put-more, put_sma
 use Rattle.operations_rewriting.proofs.Recoding.{around-below}
 use Rattle.words.proofs.Dropping.{dropped-at}
 use Rattle.operations_measurement.proofs.RemovedEdges.{leave-end, leave-more, leave-start}
+use Rattle.operations_measurement.proofs.isolation.remove_turning.Lts as lts
+use Rattle.operations_measurement.proofs.isolation.remove_turning.Reads as reads
+use Rattle.operations_measurement.proofs.isolation.remove_turning.Tie as tie
 use Rattle.operations_measurement.proofs.isolation.remove_turning.Goals as goal
+
+-- where the lemmas below stand
+abbrev AfterSmallestI : Type 0
+AfterSmallestI = lts.After-smallest reads.Pre reads.Post goal.the-invariant-loop-rest goal.the-decreases-loop-rest tie.handed_clauses
 
 pub single-away-requires : goal.single-away-requires
 single-away-requires c = lt_of_lt_of_le c.requires.1 (unrefused-short _ _ c.requires.0)
@@ -34,7 +41,7 @@ bounds-codes-i c =
     at-smallest.smallest-i.ensures.0
 
 -- a code is below 24
-small : (c : goal.After-smallest-i) → get_or c.loop-rest.codes c.smallest-i.result 0 < 24
+small : (c : AfterSmallestI) → get_or c.loop-rest.codes c.smallest-i.result 0 < 24
 small c =
     let inside = c.before in
     let start = inside.before.before.before.before.before.before.before in

@@ -9,7 +9,14 @@ use Rattle.operations.proofs.UnrefusedRecords.{unrefused-codes, unrefused-short,
 use Rattle.words.proofs.Dropping.{dropped-at}
 use Rattle.operations_rewriting.proofs.PuttingBefore.{put-end, put-more, put_small, put-start}
 use Rattle.operations_rewriting.proofs.Recoding.{around-below}
+use Rattle.operations_rewriting.proofs.complements.complement_around.Lts as lts
+use Rattle.operations_rewriting.proofs.complements.complement_around.Reads as reads
+use Rattle.operations_rewriting.proofs.complements.complement_around.Tie as tie
 use Rattle.operations_rewriting.proofs.complements.complement_around.Goals as goal
+
+-- where the lemmas below stand
+abbrev AfterSmallestI : Type 0
+AfterSmallestI = lts.After-smallest reads.Pre reads.Post goal.the-invariant-loop-rest goal.the-decreases-loop-rest tie.handed_clauses
 
 pub loop-rest-init : goal.loop-rest-init
 loop-rest-init c =
@@ -29,7 +36,7 @@ bounds-codes-i c =
     at-smallest.smallest-i.ensures.0
 
 -- a code is below 24
-small : (c : goal.After-smallest-i) → get_or c.loop-rest.codes c.smallest-i.result 0 < 24
+small : (c : AfterSmallestI) → get_or c.loop-rest.codes c.smallest-i.result 0 < 24
 small c =
     let inside = c.before in
     let start = inside.before.before.before.before.before.before in

@@ -5,7 +5,14 @@ use lib.ListN.{get_or}
 use Rattle.buffers.proofs.OverSets.{next-in, next-less}
 use Rattle.words.proofs.Dropping.{dropped-at}
 use Rattle.operations_rewriting.proofs.PuttingBefore.{put-end, put-more, put_small, put-start}
+use Rattle.operations_rewriting.proofs.complements.put_before.Lts as lts
+use Rattle.operations_rewriting.proofs.complements.put_before.Reads as reads
+use Rattle.operations_rewriting.proofs.complements.put_before.Tie as tie
 use Rattle.operations_rewriting.proofs.complements.put_before.Goals as goal
+
+-- where the lemmas below stand
+abbrev AfterSmallestI : Type 0
+AfterSmallestI = lts.After-smallest reads.Pre reads.Post goal.the-invariant-loop-rest goal.the-decreases-loop-rest tie.handed_clauses
 
 pub loop-rest-init : goal.loop-rest-init
 loop-rest-init c =
@@ -21,7 +28,7 @@ bounds-codes-i c =
     at-smallest.smallest-i.ensures.0
 
 -- a code is below 24
-small : (c : goal.After-smallest-i) → get_or c.loop-rest.codes c.smallest-i.result 0 < 24
+small : (c : AfterSmallestI) → get_or c.loop-rest.codes c.smallest-i.result 0 < 24
 small c =
     let inside = c.before in
     let start = inside.before.before.before.before in

@@ -8,7 +8,14 @@ use Rattle.buffers.proofs.OverSets.{next-in, next-less, next-short}
 use Rattle.operations_rewriting.proofs.PuttingBefore.{put-end, put-more, put_small, put-start}
 use Rattle.words.proofs.Dropping.{dropped-at}
 use Rattle.operations_rewriting.proofs.FlippedRows.{flip-end, flip-more, flip-start}
+use Rattle.operations_rewriting.proofs.pivots.turn_rows.Lts as lts
+use Rattle.operations_rewriting.proofs.pivots.turn_rows.Reads as reads
+use Rattle.operations_rewriting.proofs.pivots.turn_rows.Tie as tie
 use Rattle.operations_rewriting.proofs.pivots.turn_rows.Goals as goal
+
+-- where the lemmas below stand
+abbrev AfterSmallestI : Type 0
+AfterSmallestI = lts.After-smallest reads.Pre reads.Post goal.the-invariant-loop-rest goal.the-decreases-loop-rest tie.handed_clauses
 
 -- there are as many codes as words
 codes-short : {m n : ℕ} → (n ≤ 64) × (m ≡ n) → m ≤ 64
@@ -31,7 +38,7 @@ bounds-codes-i c =
     at-smallest.smallest-i.ensures.0
 
 -- a code is below 24
-small : (c : goal.After-smallest-i) → get_or c.loop-rest.codes c.smallest-i.result 0 < 24
+small : (c : AfterSmallestI) → get_or c.loop-rest.codes c.smallest-i.result 0 < 24
 small c =
     let inside = c.before in
     let start = inside.before.before.before.before.before in

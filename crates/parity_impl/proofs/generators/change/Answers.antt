@@ -8,7 +8,14 @@ use Rattle.parity.proofs.ChangedLists.{all_changed, none-changed, one-changed, x
 use Rattle.parity.specs.internal.Lists.{list_in}
 use Rattle.pauli.specs.Pauli.{anticommute}
 use Rattle.stabilizer.specs.Lists.{rows}
+use Rattle.parity_impl.proofs.generators.change.Lts as lts
+use Rattle.parity_impl.proofs.generators.change.Reads as reads
+use Rattle.parity_impl.proofs.generators.change.Tie as tie
 use Rattle.parity_impl.proofs.generators.change.Goals as goal
+
+-- where the lemmas below stand
+abbrev InLoopJ : Type 0
+InLoopJ = lts.In-loop reads.Pre reads.Post goal.the-invariant-loop-j goal.the-decreases-loop-j tie.handed_clauses
 
 pub bounds-zs-g : goal.bounds-zs-g
 bounds-zs-g c =
@@ -24,14 +31,14 @@ pub loop-j-init : goal.loop-j-init
 loop-j-init c = none-changed _ _ _ _
 
 -- a place of the loop's lists
-z-place : (c : goal.In-loop-j) → c.loop-j.j < length c.loop-j.zs
+z-place : (c : InLoopJ) → c.loop-j.j < length c.loop-j.zs
 z-place c =
     let S = c.before.before.before.before.before.before.before.before in
     subst (λ m. c.loop-j.j < m) (sym (z-long _ _ _ _ S.requires.zs_len.0 S.requires.zs_len.1 _ _ _ _
     c.loop-j.invariant))
     c.loop-j-test.true
 
-x-place : (c : goal.In-loop-j) → c.loop-j.j < length c.loop-j.xs
+x-place : (c : InLoopJ) → c.loop-j.j < length c.loop-j.xs
 x-place c =
     let S = c.before.before.before.before.before.before.before.before in
     subst (λ m. c.loop-j.j < m) (sym (x-long _ _ _ _ S.requires.zs_len.0 S.requires.zs_len.1 _ _ _ _

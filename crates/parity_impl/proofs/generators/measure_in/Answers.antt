@@ -6,12 +6,28 @@ use Rattle.parity.proofs.ReducedLists.{change-ready, reduce-ready, reduced-writt
 use Rattle.record.proofs.AcceptedRecords.{accepted-record}
 use Rattle.record.specs.Accepted.{AcceptedRecord}
 use Rattle.record.specs.Lent.{LentRecord}
+use Rattle.parity_impl.proofs.generators.measure_in.Lts as lts
+use Rattle.parity_impl.proofs.generators.measure_in.Reads as reads
+use Rattle.parity_impl.proofs.generators.measure_in.Tie as tie
 use Rattle.parity_impl.proofs.generators.measure_in.Goals as goal
 
-abbrev lent : goal.Start → LentRecord
+-- where the lemmas below stand
+abbrev AfterChange : Type 0
+AfterChange = lts.After-change reads.Pre reads.Post tie.handed_clauses
+
+abbrev AfterExpandInto : Type 0
+AfterExpandInto = lts.After-expand_into reads.Pre reads.Post tie.handed_clauses
+
+abbrev AfterFirstAgainstG : Type 0
+AfterFirstAgainstG = lts.After-first_against reads.Pre reads.Post tie.handed_clauses
+
+abbrev Start : Type 0
+Start = lts.Start reads.Pre reads.Post tie.handed_clauses
+
+abbrev lent : Start → LentRecord
 lent S = record_in S.args.neighbours.now S.args.codes.now
 
-held : (S : goal.Start) → AcceptedRecord (lent S)
+held : (S : Start) → AcceptedRecord (lent S)
 held S = accepted-record (lent S) false false S.requires.unrefused.no_line
 
 pub expand_into-requires : goal.expand_into-requires
@@ -20,13 +36,13 @@ expand_into-requires c =
     let A = held S in record { n_bound = (A.upto, refl, A.codes-length); by_index = (A.codes-below, A.words-below); signs_len = S.requires.signs_len }
 
 -- where the generators are expanded
-abbrev at : goal.After-expand_into → goal.Start
+abbrev at : AfterExpandInto → Start
 at E = E.before.before.before.before.before.before.before.before.before.before.before
 
-abbrev of : goal.After-first_against-g → goal.After-expand_into
-of F = F.before.before.before.before.before.before.before.before.before.before
+abbrev of : AfterFirstAgainstG → AfterExpandInto
+of F = F.before.before.before.before.before.before.before.before.before
 
-abbrev by : goal.After-change → goal.After-first_against-g
+abbrev by : AfterChange → AfterFirstAgainstG
 by C = C.before.before.before.before
 
 pub first_against-g-requires : goal.first_against-g-requires

@@ -11,7 +11,14 @@ use Rattle.store_impl.proofs.Parts.{part_count}
 use Rattle.words.proofs.Searching.{no-some, none_here, none_yet, some-found}
 use Rattle.words.specs.Bits.{bit}
 use Rattle.parties_impl.proofs.HeldStates.{out-here}
+use Rattle.parties_impl.proofs.checks.held_out.Lts as lts
+use Rattle.parties_impl.proofs.checks.held_out.Reads as reads
+use Rattle.parties_impl.proofs.checks.held_out.Tie as tie
 use Rattle.parties_impl.proofs.checks.held_out.Goals as goal
+
+-- where the lemmas below stand
+abbrev AfterReachesOut : Type 0
+AfterReachesOut = lts.After-reaches_out reads.Pre reads.Post goal.the-invariant-loop-i goal.the-decreases-loop-i tie.handed_clauses
 
 pub loop-i-init : goal.loop-i-init
 loop-i-init c = (omega arith, none_yet _)
@@ -30,7 +37,7 @@ reaches_out-requires c =
     part_count I.loop-i.i 64 S.args.neighbours.now (omega (arith, I.loop-i-test.true, S.requires.neighbours_len))
 
 -- the test at place i
-test-here : (R : goal.After-reaches_out)
+test-here : (R : AfterReachesOut)
     → (not (eqb R.word_at.result 0) && R.reaches_out.result)
     ≡ (is_held R.args.heads.now
     R.loop-i.i
@@ -40,7 +47,7 @@ test-here : (R : goal.After-reaches_out)
       codes = [];
     }) R.loop-i.i))
 test-here R =
-    let W = R.before.before.before in
+    let W = R.before.before in
     let I = W.before in
     let S = I.before.before.before.before in
     out-here (bit S.args.own) S.args.heads.now S.args.neighbours.now S.requires.codes_value I.loop-i.i _

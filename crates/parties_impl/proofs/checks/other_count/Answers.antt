@@ -9,7 +9,14 @@ use Rattle.parties.specs.PartyStores.{own_heads}
 use Rattle.store.specs.Places.{count_at}
 use Rattle.words.proofs.Searching.{no-some, none_here, none_yet, some-found}
 use Rattle.parties_impl.proofs.OwnNumbers.{none-counted}
+use Rattle.parties_impl.proofs.checks.other_count.Lts as lts
+use Rattle.parties_impl.proofs.checks.other_count.Reads as reads
+use Rattle.parties_impl.proofs.checks.other_count.Tie as tie
 use Rattle.parties_impl.proofs.checks.other_count.Goals as goal
+
+-- where the lemmas below stand
+abbrev AfterWordAtN : Type 0
+AfterWordAtN = lts.After-word_at reads.Pre reads.Post goal.the-invariant-loop-i goal.the-decreases-loop-i tie.handed_clauses
 
 pub returns-then-party-gt1 : goal.returns-then-party-gt1
 returns-then-party-gt1 c =
@@ -20,11 +27,11 @@ pub loop-i-init : goal.loop-i-init
 loop-i-init c = (omega arith, none_yet _)
 
 -- the n of place i
-count-here : (W : goal.After-word_at-n)
+count-here : (W : AfterWordAtN)
     → W.word_at-n.result ≡ count_at (own_heads W.args.party
     W.args.heads.now) W.loop-i.i
 count-here W =
-    let E = W.before.before.before.before in
+    let E = W.before.before.before in
     let a = E.args in
     let i = W.loop-i.i in
     W.word_at-n.ensures

@@ -3,10 +3,17 @@ use mathlib.Core.Path.{◌∙◌, sym}
 use Rattle.parties.specs.Masks.{in_party}
 use Rattle.store.specs.Places.{Store}
 use Rattle.parties_impl.proofs.OwnNumbers.{own-2, own-4, own-answer, own-none, parts-inside, places-fit}
+use Rattle.parties_impl.proofs.checks.own_refusal.Lts as lts
+use Rattle.parties_impl.proofs.checks.own_refusal.Reads as reads
+use Rattle.parties_impl.proofs.checks.own_refusal.Tie as tie
 use Rattle.parties_impl.proofs.checks.own_refusal.Goals as goal
 
+-- where the lemmas below stand
+abbrev Start : Type 0
+Start = lts.Start reads.Pre reads.Post tie.handed_clauses
+
 -- the store that is lent
-abbrev lent : goal.Start → Store
+abbrev lent : Start → Store
 lent S = record { heads = S.args.heads.now; neighbours = S.args.neighbours.now; codes = S.args.codes.now }
 
 pub returns-then-other_count : goal.returns-then-other_count

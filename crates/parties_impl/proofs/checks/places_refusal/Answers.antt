@@ -3,10 +3,17 @@ use mathlib.Core.Path.{◌∙◌, sym}
 use Rattle.store.specs.Places.{Store}
 use Rattle.words.specs.Bits.{bit}
 use Rattle.parties_impl.proofs.OwnNumbers.{codes-unread, places-early, places-last}
+use Rattle.parties_impl.proofs.checks.places_refusal.Lts as lts
+use Rattle.parties_impl.proofs.checks.places_refusal.Reads as reads
+use Rattle.parties_impl.proofs.checks.places_refusal.Tie as tie
 use Rattle.parties_impl.proofs.checks.places_refusal.Goals as goal
 
+-- where the lemmas below stand
+abbrev Start : Type 0
+Start = lts.Start reads.Pre reads.Post tie.handed_clauses
+
 -- the store that is lent
-abbrev lent : goal.Start → Store
+abbrev lent : Start → Store
 lent S = record { heads = S.args.heads.now; neighbours = S.args.neighbours.now; codes = S.args.codes.now }
 
 pub returns-then-number-ne0 : goal.returns-then-number-ne0

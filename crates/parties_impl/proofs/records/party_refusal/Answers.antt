@@ -4,10 +4,17 @@ use lib.Dec.{ltb}
 use Rattle.operations.specs.Used.{UsedRecord, used_record}
 use Rattle.operations_checks.proofs.UsedNumbers.{no-further}
 use Rattle.parties_impl.proofs.EarlyNumbers.{of-64, other-count, record-refused, then-19, then-none}
+use Rattle.parties_impl.proofs.records.party_refusal.Lts as lts
+use Rattle.parties_impl.proofs.records.party_refusal.Reads as reads
+use Rattle.parties_impl.proofs.records.party_refusal.Tie as tie
 use Rattle.parties_impl.proofs.records.party_refusal.Goals as goal
 
+-- where the lemmas below stand
+abbrev Start : Type 0
+Start = lts.Start reads.Pre reads.Post tie.handed_clauses
+
 -- the record that is lent
-abbrev lent : goal.Start → UsedRecord
+abbrev lent : Start → UsedRecord
 lent S = used_record S.args.n S.args.neighbours.now S.args.codes.now S.args.used
 
 pub returns-then-n-ne64 : goal.returns-then-n-ne64

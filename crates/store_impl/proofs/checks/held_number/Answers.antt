@@ -5,10 +5,17 @@ use Rattle.buffers.proofs.Parts.{part-long}
 use Rattle.operations.specs.Used.{UsedRecord}
 use Rattle.operations_checks.proofs.UsedNumbers.{no-further}
 use Rattle.store.proofs.StoreNumbers.{free-number, held-place-number}
+use Rattle.store_impl.proofs.checks.held_number.Lts as lts
+use Rattle.store_impl.proofs.checks.held_number.Reads as reads
+use Rattle.store_impl.proofs.checks.held_number.Tie as tie
 use Rattle.store_impl.proofs.checks.held_number.Goals as goal
 
+-- where the lemmas below stand
+abbrev Start : Type 0
+Start = lts.Start reads.Pre reads.Post tie.handed_clauses
+
 -- the record in the first n places
-abbrev lent : goal.Start → UsedRecord
+abbrev lent : Start → UsedRecord
 lent S =
     record {
       held = record {

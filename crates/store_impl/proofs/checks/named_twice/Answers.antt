@@ -6,7 +6,14 @@ use native.Mathlib.Omega.{arith}
 use lib.Dec.{eqb, ltb}
 use Rattle.store.specs.Places.{holds_name, is_held, name_at, place_of}
 use Rattle.words.proofs.Searching.{no-some, none_here, none_yet, some-by-first, some-found}
+use Rattle.store_impl.proofs.checks.named_twice.Lts as lts
+use Rattle.store_impl.proofs.checks.named_twice.Reads as reads
+use Rattle.store_impl.proofs.checks.named_twice.Tie as tie
 use Rattle.store_impl.proofs.checks.named_twice.Goals as goal
+
+-- where the lemmas below stand
+abbrev AfterWordAtInLoopI : Type 0
+AfterWordAtInLoopI = lts.After-word_at2 reads.Pre reads.Post goal.the-invariant-loop-i goal.the-decreases-loop-i tie.handed_clauses
 
 pub loop-i-init : goal.loop-i-init
 loop-i-init c = (omega arith, none_yet _)
@@ -24,7 +31,7 @@ pub overflow_mul-i-in-loop-i : goal.overflow_mul-i-in-loop-i
 overflow_mul-i-in-loop-i c = omega (arith, c.requires)
 
 -- the test at place i
-twice-here : (W : goal.After-word_at-in-loop-i)
+twice-here : (W : AfterWordAtInLoopI)
     → (not (eqb W.word_at-in-loop-i.result 0) && ltb W.find-before.result W.loop-i.i)
     ≡ (is_held W.args.heads.now
     W.loop-i.i
@@ -33,7 +40,7 @@ twice-here : (W : goal.After-word_at-in-loop-i)
     (name_at W.args.heads.now
     W.loop-i.i))
 twice-here W =
-    let F = W.before.before in
+    let F = W.before in
     let i = F.loop-i.i in
     let heads = F.args.heads.now in
     ap₂ ◌&&◌ (ap (λ n. not (eqb n 0)) W.word_at-in-loop-i.ensures)

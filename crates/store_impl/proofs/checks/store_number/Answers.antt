@@ -3,10 +3,17 @@ use Prim.Native.Nat.{◌-◌}
 use native.Mathlib.Omega.{arith}
 use Rattle.store.specs.Places.{Store}
 use Rattle.store_impl.proofs.PlaceNumbers.{all-passed, none_passed, place_inside, place-long, place-part, place-passed, place-small}
+use Rattle.store_impl.proofs.checks.store_number.Lts as lts
+use Rattle.store_impl.proofs.checks.store_number.Reads as reads
+use Rattle.store_impl.proofs.checks.store_number.Tie as tie
 use Rattle.store_impl.proofs.checks.store_number.Goals as goal
 
+-- where the lemmas below stand
+abbrev Start : Type 0
+Start = lts.Start reads.Pre reads.Post goal.the-invariant-loop-i goal.the-decreases-loop-i tie.handed_clauses
+
 -- the store that is lent
-abbrev lent : goal.Start → Store
+abbrev lent : Start → Store
 lent S = record { heads = S.args.heads.now; neighbours = S.args.neighbours.now; codes = S.args.codes.now }
 
 pub loop-i-init : goal.loop-i-init

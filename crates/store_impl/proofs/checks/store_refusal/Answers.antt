@@ -4,10 +4,17 @@ use mathlib.Core.Path.{◌∙◌, ap, sym}
 use Rattle.store.proofs.StoreNumbers.{store-2, store-4, store-names, store-number}
 use Rattle.store.specs.Places.{Store}
 use Rattle.store_impl.proofs.PlaceNumbers.{lengths-fit}
+use Rattle.store_impl.proofs.checks.store_refusal.Lts as lts
+use Rattle.store_impl.proofs.checks.store_refusal.Reads as reads
+use Rattle.store_impl.proofs.checks.store_refusal.Tie as tie
 use Rattle.store_impl.proofs.checks.store_refusal.Goals as goal
 
+-- where the lemmas below stand
+abbrev Start : Type 0
+Start = lts.Start reads.Pre reads.Post tie.handed_clauses
+
 -- the store that is lent
-abbrev lent : goal.Start → Store
+abbrev lent : Start → Store
 lent S = record { heads = S.args.heads.now; neighbours = S.args.neighbours.now; codes = S.args.codes.now }
 
 pub returns-then-large_count : goal.returns-then-large_count

@@ -13,14 +13,21 @@ use Rattle.text.specs.internal.Feeding.{fed_bytes}
 use Rattle.text.specs.internal.Scan.{as_reading, fed, feed}
 use Rattle.text.proofs.Feeding.{fed-more}
 use Rattle.text.proofs.OneByte.{feed-kept, feed-stored}
+use Rattle.text_impl.proofs.blocks.scan_block.Lts as lts
+use Rattle.text_impl.proofs.blocks.scan_block.Reads as reads
+use Rattle.text_impl.proofs.blocks.scan_block.Tie as tie
 use Rattle.text_impl.proofs.blocks.scan_block.Goals as goal
+
+-- where the lemmas below stand
+abbrev ThenRowCount : Type 0
+ThenRowCount = lts.Then1 reads.Pre reads.Post goal.the-invariant-loop-i goal.the-decreases-loop-i tie.handed_clauses
 
 pub loop-i-init : goal.loop-i-init
 unfolding fed_bytes
 loop-i-init c = (zero-le, refl)
 
 -- a line is stored only among the first 64
-line-below : (c : goal.Then-row-count) → c.loop-i.s.count < 64
+line-below : (c : ThenRowCount) → c.loop-i.s.count < 64
 line-below c =
     let row = c.loop-i.s.count in
     ltb-true row 64 ((and-eq-true_iff (ltb row c.scan_byte-next.result.count) (ltb row 64)).0

@@ -8,10 +8,17 @@ use Rattle.text.proofs.RecordReading.{read_fits}
 use Rattle.text.specs.RecordTexts.{LineFits, numeral}
 use Rattle.text.specs.Text.{space}
 use Rattle.text_records.proofs.Comparing.{line-size, line-told}
+use Rattle.text_records.proofs.lines.read_printing.Lts as lts
+use Rattle.text_records.proofs.lines.read_printing.Reads as reads
+use Rattle.text_records.proofs.lines.read_printing.Tie as tie
 use Rattle.text_records.proofs.lines.read_printing.Goals as goal
 
+-- where the lemmas below stand
+abbrev Start : Type 0
+Start = lts.Start reads.Pre reads.Post tie.handed_clauses
+
 -- the number and its space have at most 21 bytes
-short : (S : goal.Start) → length (numeral S.args.q) + 1 ≤ 21
+short : (S : Start) → length (numeral S.args.q) + 1 ≤ 21
 short S = omega (arith, word-places S.args.q S.ranges.q.fits)
 
 pub columns_at-line-requires : goal.columns_at-line-requires

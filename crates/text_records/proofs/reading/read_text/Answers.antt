@@ -7,21 +7,37 @@ use lib.ListN.{length}
 use borrow.Author.Tests.{not-false, not-true}
 use Rattle.text_records.proofs.Following.{Followed, all-followed, line-missing, names-missing, next-inside, none-followed, one-followed, rest-is, told_none}
 use Rattle.text.specs.RecordTexts.{from_line}
+use Rattle.text_records.proofs.reading.read_text.Lts as lts
+use Rattle.text_records.proofs.reading.read_text.Reads as reads
+use Rattle.text_records.proofs.reading.read_text.Tie as tie
 use Rattle.text_records.proofs.reading.read_text.Goals as goal
 
+-- where the lemmas below stand
+abbrev AfterReadLineRead : Type 0
+AfterReadLineRead = lts.After-read_line reads.Pre reads.Post goal.the-invariant-loop-at goal.the-decreases-loop-at tie.handed_clauses
+
+abbrev AfterStartsWith : Type 0
+AfterStartsWith = lts.After-starts_with reads.Pre reads.Post goal.the-invariant-loop-at goal.the-decreases-loop-at tie.handed_clauses
+
+abbrev AtLoopAt : Type 0
+AtLoopAt = lts.At-loop reads.Pre reads.Post goal.the-invariant-loop-at goal.the-decreases-loop-at tie.handed_clauses
+
+abbrev ElseNotFits : Type 0
+ElseNotFits = lts.Else2 reads.Pre reads.Post goal.the-invariant-loop-at goal.the-decreases-loop-at tie.handed_clauses
+
 -- what is known of the text and of the line read
-abbrev text : goal.After-starts_with → List ℕ
+abbrev text : AfterStartsWith → List ℕ
 text S = S.args.text.now
 
-abbrev followed : (A : goal.At-loop-at) →
-    Followed (text A.before.before.before.before) A.loop-at.neighbours A.loop-at.codes A.loop-at.used A.loop-at.count
+abbrev followed : (A : AtLoopAt) →
+    Followed (text A.before.before) A.loop-at.neighbours A.loop-at.codes A.loop-at.used A.loop-at.count
     A.loop-at.at
 followed A = A.loop-at.invariant
 
-told : (R : goal.After-read_line-read) → let A = R.before.before.before.before.before in
-    LineTold A.loop.count (from_line (text A.before.before) A.loop.count) R.read_line-read.result
+told : (R : AfterReadLineRead) → let A = R.before.before.before in
+    LineTold A.loop-at.count (from_line (text A.before.before) A.loop-at.count) R.read_line-read.result
 told R =
-    let A = R.before.before.before.before in
+    let A = R.before.before.before in
     subst (λ t. LineTold A.loop-at.count t R.read_line-read.result) (rest-is (text A.before.before) (followed A))
     R.read_line-read.ensures
 
@@ -46,10 +62,10 @@ returns-then-not-fits c =
     (not-true _ c.if-not-fits.true-raw))
 
 -- the next line lies within the text, and has some bytes
-inside : (E : goal.Else-not-fits) → let R = E.before.before.before in let A = R.before.before.before in
-    (A.loop.at + R.read-line.result.size ≤ length (text A.before.before)) × (0 < R.read-line.result.size)
+inside : (E : ElseNotFits) → let R = E.before in let A = R.before.before.before in
+    (A.loop-at.at + R.read_line-read.result.size ≤ length (text A.before.before)) × (0 < R.read_line-read.result.size)
 inside E =
-    let R = E.before.before in
+    let R = E.before in
     let I = R.before.before in
     let A = I.before in
     next-inside (text A.before.before) (followed A) I.loop-at-test.true R.read_line-read.result (told R)
