@@ -40,7 +40,7 @@ use Rattle.record_reduction.proofs.Passing.{eliminated-loaded}
 use Rattle.record_reduction.specs.internal.Passes.{Eliminated, Loaded, pivot, pivoted, skip, start}
 
 -- ---- the passes of the laws, from those of the code
-pub first_of : (n : ℕ) {R : ℕ → Pauli} {w : Word} {q : ℕ} {R₀ : ℕ → Pauli} {w₀ : Word} →
+pub first_of : (n : ℕ) {R₀ : ℕ → Pauli} {w₀ : Word} {R : ℕ → Pauli} {w : Word} {q : ℕ} →
     FirstPass n R₀ R₀ w₀ 0 → Eliminated n R₀ w₀ R w q → FirstPass n R₀ R w q
 first_of n F start = F
 first_of n F (pivoted {q = q} E hq e) =
@@ -50,7 +50,7 @@ first_of n {R₀ = R₀} F (skip {R = R} {w = w} {q = q} E hq none) =
 first_of n {R₀ = R₀} F (pivot {R = R} {w = w} {q = q} E hq i hi e) =
     first-pass-pivot n R₀ R w q hq (first_of n F E) i hi e
 
-pub second-of : (n : ℕ) {R : ℕ → Pauli} {w : Word} {q : ℕ} {R₀ : ℕ → Pauli} {w₀ : Word} →
+pub second-of : (n : ℕ) {R₀ : ℕ → Pauli} {w₀ : Word} {R : ℕ → Pauli} {w : Word} {q : ℕ} →
     SecondPass n R₀ R₀ w₀ w₀ 0 → Eliminated n R₀ w₀ R w q → SecondPass n R₀ R w₀ w q
 second-of n F start = F
 second-of n {R₀ = R₀} {w₀ = w₀} F (pivoted {R = R} {w = w} {q = q} E hq e) =
@@ -61,7 +61,7 @@ second-of n {R₀ = R₀} {w₀ = w₀} F (pivot {R = R} {w = w} {q = q} E hq i 
     second-pass-pivot n R₀ R w₀ w q hq (second-of n F E) i hi e
 
 -- no pivot at or above n
-pivots-below : (n : ℕ) {R : ℕ → Pauli} {w : Word} {q : ℕ} {R₀ : ℕ → Pauli} {w₀ : Word} →
+pivots-below : (n : ℕ) {R₀ : ℕ → Pauli} {w₀ : Word} {R : ℕ → Pauli} {w : Word} {q : ℕ} →
     ((t : ℕ) → n ≤ t → w₀ t ≡ false) → Eliminated n R₀ w₀ R w q → (t : ℕ) → n ≤ t → w t ≡ false
 pivots-below n h start t l = h t l
 pivots-below n h (pivoted E hq e) t l = pivots-below n h E t l

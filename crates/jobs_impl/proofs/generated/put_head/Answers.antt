@@ -31,7 +31,7 @@ returns c =
     let names = number.before.before.before.before in
     let start = names.before.before.before.before in
     let n = start.args.n in
-    subst (λ l. Printed l 0 start.args.out.now c.put_bytes.new.1.1.0
+    subst (λ l. Printed l 0 start.args.out.now c.put_bytes.new.out
     c.put_bytes.result)
     (head-parts n start.requires.0)
     (and_then (omega (arith, length-append qubits_line (decimal n), length-decimal n, start.requires))

@@ -31,7 +31,7 @@ pub returns : goal.returns
 returns c =
     let l = c.before.before.before.before.before.before in
     let a = l.args in
-    subst (λ t. Printed t a.at a.out.now c.put_bytes.new.1.1.0
+    subst (λ t. Printed t a.at a.out.now c.put_bytes.new.out
     c.put_bytes.result)
     (letters-taken a.op _ _ l.op_letters-letters.ensures l.op_length-count.ensures)
     c.put_bytes.ensures

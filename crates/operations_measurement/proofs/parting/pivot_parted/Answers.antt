@@ -56,7 +56,7 @@ bounds-codes-k-2 c =
     let at-q = at-k.before.before in
     let begun = at-q.before.before.before.before in
     subst (λ m. begun.args.k < m)
-    (sym (length-set joined.join_turning.new.1.0 begun.args.q at-q.compose-at_q.result
+    (sym (length-set joined.join_turning.new.codes begun.args.q at-q.compose-at_q.result
     ∙ joined.join_turning.auto.1.0))
     (unrefused-place _ _ begun.requires.unrefused _ begun.requires.q_in_bounds.1)
 
@@ -78,6 +78,6 @@ returns c =
     let known = joined.join_turning in
     let q = begun.args.q in
     let k = begun.args.k in
-    let es = at-single.single.ensures in record { same_graph = parted-edges _ _ begun.requires.unrefused q k begun.requires.q_in_bounds.0 begun.requires.q_in_bounds.1 begun.requires.k_value _ es known.new.0
+    let es = at-single.single.ensures in record { same_graph = parted-edges _ _ begun.requires.unrefused q k begun.requires.q_in_bounds.0 begun.requires.q_in_bounds.1 begun.requires.k_value _ es joined.join_turning.new.neighbours
           joined.join_turning.ensures.same_graph; codes_after = parted-codes _ _ begun.requires.unrefused q k begun.requires.q_in_bounds.0 begun.requires.q_in_bounds.1 begun.requires.k_value _ es _ _ _
             at-q.compose-at_q.ensures.0 at-k.compose-at_k.ensures.0 joined.join_turning.ensures.codes_after; by_index = parted-near _ _ begun.requires.unrefused q k begun.requires.q_in_bounds.0 begun.requires.q_in_bounds.1 begun.requires.k_value _ es _ c.flip.ensures }

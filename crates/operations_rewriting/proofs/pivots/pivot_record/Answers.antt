@@ -59,7 +59,7 @@ bounds-codes-k-2 c =
     let at_j = joined.before.before.before.before.before.before.before.before.before in
     let begun = at_j.before.before.before.before in
     subst (λ m. begun.args.k < m)
-    (sym (length-set joined.join_turning.new.1.0 begun.args.j at_j.compose-at_j.result
+    (sym (length-set joined.join_turning.new.codes begun.args.j at_j.compose-at_j.result
     ∙ joined.join_turning.auto.1.0))
     (unrefused-place _ _ begun.requires.unrefused _ begun.requires.j_in_bounds.1)
 
@@ -80,4 +80,4 @@ returns c =
     at_j.compose-at_j.ensures.0 at-k.compose-at_k.ensures.0 joined.join_turning.ensures.codes_after)
     known.auto.0
     (pivot-by-sets words (unrefused-simple _ _ begun.requires.unrefused) begun.args.j begun.args.k _ _ begun.requires.k_value
-    single-j.single.ensures single-k.single-2.ensures known.new.0 joined.join_turning.ensures.same_graph)
+    single-j.single.ensures single-k.single-2.ensures joined.join_turning.new.neighbours joined.join_turning.ensures.same_graph)

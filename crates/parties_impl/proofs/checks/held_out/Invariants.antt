@@ -11,7 +11,7 @@ use Rattle.parties_impl.proofs.checks.held_out.Given as goal
 abbrev pub invariant-loop-i : goal.invariant-loop-i
 invariant-loop-i l =
     (l.i ≤ 4) × NoneBelow (λ j. is_held l.heads j
-    && reaches_out (bit l.own) (place_at (record { l.heads = l.heads; l.neighbours = l.neighbours; codes = [] }) j)) l.i
+    && reaches_out (bit l.own) (place_at (record { heads = l.heads; neighbours = l.neighbours; codes = [] }) j)) l.i
 
 abbrev pub decreases-loop-i : goal.decreases-loop-i
 decreases-loop-i l = 4 - l.i

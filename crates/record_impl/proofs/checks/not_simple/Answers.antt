@@ -8,7 +8,7 @@ returns c =
     let at-transpose = at-unequal.before.before in
     let at-square = at-transpose.before.before in
     let a = at-square.args in
-    square-verdict a.n a.neighbours.now at-transpose.transpose.new.0 _ _ _
-    (turned-back a.n a.neighbours.now at-square.square_of-own.new.1.1.0 at-transpose.transpose.new.0
+    square-verdict a.n a.neighbours.now at-transpose.transpose.new.rows _ _ _
+    (turned-back a.n a.neighbours.now at-square.square_of-own.new.rows at-transpose.transpose.new.rows
     at-square.square_of-own.ensures.copied at-transpose.transpose.ensures.turned)
     at-square.square_of-own.ensures.by_index at-unequal.unequal.ensures c.mask.ensures

@@ -50,8 +50,8 @@ loop-q-preserved c =
     in (
       search rules,
       subst (λ k. Printed (qubit_lines k start.args.neighbours.now start.args.codes.now start.args.used)
-          names.put_bytes-at.result names.put_bytes-at.new.1.1.0
-          c.put_line-at.new.1.1.1.1.1.0 c.put_line-at.result)
+          names.put_bytes-at.result names.put_bytes-at.new.out
+          c.put_line-at.new.out c.put_line-at.result)
           (sym (add-one l.loop-q.q))
           (and_then (omega (
             arith,

@@ -5,7 +5,7 @@ use Rattle.text_strings.proofs.PrintLoops.{LinesPut}
 use Rattle.text_strings.proofs.printing.put_strings.Given as goal
 
 abbrev pub invariant-loop-j : goal.invariant-loop-j
-invariant-loop-j l = LinesPut l.n (rows (record { l.n = l.n; l.signs = l.signs; l.z = l.z; l.x = l.x })) l.initial.out l.out l.at l.j
+invariant-loop-j l = LinesPut l.n (rows (record { n = l.n; signs = l.signs; z = l.z; x = l.x })) l.initial.out l.out l.at l.j
 
 abbrev pub decreases-loop-j : goal.decreases-loop-j
 decreases-loop-j l = l.n - l.j
