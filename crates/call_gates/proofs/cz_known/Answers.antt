@@ -18,10 +18,10 @@ use Rattle.call_gates.proofs.cz_known.Goals as goal
 
 -- where the lemmas below stand
 abbrev AfterInPlaceNumberEarly : Type 0
-AfterInPlaceNumberEarly = lts.After-in_place_number reads.Pre reads.Post tie.handed_clauses
+AfterInPlaceNumberEarly = lts.After-in_place_number tie.the-claims reads.Pre reads.Post tie.handed_clauses
 
 abbrev Start : Type 0
-Start = lts.Start reads.Pre reads.Post tie.handed_clauses
+Start = lts.Start tie.the-claims reads.Pre reads.Post tie.handed_clauses
 
 -- the record that is lent
 abbrev lent : Start → UsedRecord

@@ -17,13 +17,13 @@ use Rattle.call_parity.proofs.measure_row.Goals as goal
 
 -- where the lemmas below stand
 abbrev AfterUsedRefusalEarly : Type 0
-AfterUsedRefusalEarly = lts.After-used_refusal reads.Pre reads.Post tie.handed_clauses
+AfterUsedRefusalEarly = lts.After-used_refusal tie.the-claims reads.Pre reads.Post tie.handed_clauses
 
 abbrev ElseUsedRowNe0 : Type 0
-ElseUsedRowNe0 = lts.Else2 reads.Pre reads.Post tie.handed_clauses
+ElseUsedRowNe0 = lts.Else2 tie.the-claims reads.Pre reads.Post tie.handed_clauses
 
 abbrev Start : Type 0
-Start = lts.Start reads.Pre reads.Post tie.handed_clauses
+Start = lts.Start tie.the-claims reads.Pre reads.Post tie.handed_clauses
 
 -- the record that is lent
 abbrev lent : Start → UsedRecord

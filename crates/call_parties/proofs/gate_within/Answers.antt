@@ -11,7 +11,7 @@ use Rattle.call_parties.proofs.gate_within.Goals as goal
 
 -- where the lemmas below stand
 abbrev Start : Type 0
-Start = lts.Start reads.Pre reads.Post tie.handed_clauses
+Start = lts.Start tie.the-claims reads.Pre reads.Post tie.handed_clauses
 
 -- the record that is lent
 abbrev lent : Start → UsedRecord

@@ -17,10 +17,10 @@ use Rattle.call_source.proofs.observe_known.Goals as goal
 
 -- where the lemmas below stand
 abbrev ElseEarlyNe0 : Type 0
-ElseEarlyNe0 = lts.Else1 reads.Pre reads.Post tie.handed_clauses
+ElseEarlyNe0 = lts.Else1 tie.the-claims reads.Pre reads.Post tie.handed_clauses
 
 abbrev Start : Type 0
-Start = lts.Start reads.Pre reads.Post tie.handed_clauses
+Start = lts.Start tie.the-claims reads.Pre reads.Post tie.handed_clauses
 
 -- the record that is lent
 abbrev lent : Start → UsedRecord

@@ -12,10 +12,10 @@ use Rattle.call_store.proofs.return_to.Goals as goal
 
 -- where the lemmas below stand
 abbrev AfterStoreRefusalEarly : Type 0
-AfterStoreRefusalEarly = lts.After-store_refusal reads.Pre reads.Post tie.handed_clauses
+AfterStoreRefusalEarly = lts.After-store_refusal tie.the-claims reads.Pre reads.Post tie.handed_clauses
 
 abbrev Start : Type 0
-Start = lts.Start reads.Pre reads.Post tie.handed_clauses
+Start = lts.Start tie.the-claims reads.Pre reads.Post tie.handed_clauses
 
 -- the store that is lent
 abbrev store : Start → Store

@@ -11,13 +11,13 @@ use Rattle.call_texts.proofs.read_record.Goals as goal
 
 -- where the lemmas below stand
 abbrev AfterOtherThan2 : Type 0
-AfterOtherThan2 = lts.After-other_than2 reads.Pre reads.Post tie.handed_clauses
+AfterOtherThan2 = lts.After-other_than2 tie.the-claims reads.Pre reads.Post tie.handed_clauses
 
 abbrev AfterReadTextRead : Type 0
-AfterReadTextRead = lts.After-read_text reads.Pre reads.Post tie.handed_clauses
+AfterReadTextRead = lts.After-read_text tie.the-claims reads.Pre reads.Post tie.handed_clauses
 
 abbrev Start : Type 0
-Start = lts.Start reads.Pre reads.Post tie.handed_clauses
+Start = lts.Start tie.the-claims reads.Pre reads.Post tie.handed_clauses
 
 abbrev at : AfterReadTextRead → Start
 at R = R.before.before.before.before

@@ -12,7 +12,7 @@ use Rattle.operations_checks.proofs.used_number.Goals as goal
 
 -- where the lemmas below stand
 abbrev Start : Type 0
-Start = lts.Start reads.Pre reads.Post tie.handed_clauses
+Start = lts.Start tie.the-claims reads.Pre reads.Post tie.handed_clauses
 
 -- the record that is lent, and whether the further word has a bit at or above n
 abbrev lent : Start → UsedRecord

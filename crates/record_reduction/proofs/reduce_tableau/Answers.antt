@@ -41,7 +41,7 @@ use Rattle.record_reduction.proofs.reduce_tableau.Goals as goal
 
 -- where the lemmas below stand
 abbrev Start : Type 0
-Start = lts.Start reads.Pre reads.Post goal.the-invariant-loop-k goal.the-decreases-loop-k goal.the-invariant-loop-j goal.the-decreases-loop-j goal.the-invariant-loop-rest goal.the-decreases-loop-rest goal.the-invariant-loop-q goal.the-decreases-loop-q goal.the-invariant-loop-i goal.the-decreases-loop-i goal.the-invariant-loop-round goal.the-decreases-loop-round tie.handed_clauses
+Start = lts.Start tie.the-claims reads.Pre reads.Post goal.the-invariant-loop-k goal.the-decreases-loop-k goal.the-invariant-loop-j goal.the-decreases-loop-j goal.the-invariant-loop-rest goal.the-decreases-loop-rest goal.the-invariant-loop-q goal.the-decreases-loop-q goal.the-invariant-loop-i goal.the-decreases-loop-i goal.the-invariant-loop-round goal.the-decreases-loop-round tie.handed_clauses
 
 -- a bit by shift and mask
 low_bit : (w q : ℕ) → bit_and (w / 2 ^ q) 1 ≡ digit (bit w q)
@@ -50,79 +50,55 @@ low_bit w q = and_mask (w / 2 ^ q) 1 ∙ sym (digit-odd (w / 2 ^ q))
 
 -- ---- the places of the code that laws are about
 abbrev AtLoop2 : Type 0
-AtLoop2 = tie.At-loop2 invariant-loop decreases-loop invariant-loop4 decreases-loop4 invariant-loop5 decreases-loop5 invariant-loop3 decreases-loop3 invariant-loop6 decreases-loop6 invariant-loop2
-    decreases-loop2
+AtLoop2 = lts.At-loop2 tie.the-claims reads.Pre reads.Post goal.the-invariant-loop-k goal.the-decreases-loop-k goal.the-invariant-loop-j goal.the-decreases-loop-j goal.the-invariant-loop-rest goal.the-decreases-loop-rest goal.the-invariant-loop-q goal.the-decreases-loop-q goal.the-invariant-loop-i goal.the-decreases-loop-i goal.the-invariant-loop-round goal.the-decreases-loop-round tie.handed_clauses
 
 abbrev InLoop2 : Type 0
-InLoop2 = tie.In-loop2 invariant-loop decreases-loop invariant-loop4 decreases-loop4 invariant-loop5 decreases-loop5 invariant-loop3 decreases-loop3 invariant-loop6 decreases-loop6 invariant-loop2
-    decreases-loop2
+InLoop2 = lts.In-loop2 tie.the-claims reads.Pre reads.Post goal.the-invariant-loop-k goal.the-decreases-loop-k goal.the-invariant-loop-j goal.the-decreases-loop-j goal.the-invariant-loop-rest goal.the-decreases-loop-rest goal.the-invariant-loop-q goal.the-decreases-loop-q goal.the-invariant-loop-i goal.the-decreases-loop-i goal.the-invariant-loop-round goal.the-decreases-loop-round tie.handed_clauses
 
 abbrev InLoop3 : Type 0
-InLoop3 = tie.In-loop3 invariant-loop decreases-loop invariant-loop4 decreases-loop4 invariant-loop5 decreases-loop5 invariant-loop3 decreases-loop3 invariant-loop6 decreases-loop6 invariant-loop2
-    decreases-loop2
+InLoop3 = lts.In-loop3 tie.the-claims reads.Pre reads.Post goal.the-invariant-loop-k goal.the-decreases-loop-k goal.the-invariant-loop-j goal.the-decreases-loop-j goal.the-invariant-loop-rest goal.the-decreases-loop-rest goal.the-invariant-loop-q goal.the-decreases-loop-q goal.the-invariant-loop-i goal.the-decreases-loop-i goal.the-invariant-loop-round goal.the-decreases-loop-round tie.handed_clauses
 
 abbrev AfterLoop4 : Type 0
-AfterLoop4 = tie.After-loop4 invariant-loop decreases-loop invariant-loop4 decreases-loop4 invariant-loop5 decreases-loop5 invariant-loop3 decreases-loop3 invariant-loop6 decreases-loop6
-    invariant-loop2
-    decreases-loop2
+AfterLoop4 = lts.After-loop4 tie.the-claims reads.Pre reads.Post goal.the-invariant-loop-k goal.the-decreases-loop-k goal.the-invariant-loop-j goal.the-decreases-loop-j goal.the-invariant-loop-rest goal.the-decreases-loop-rest goal.the-invariant-loop-q goal.the-decreases-loop-q goal.the-invariant-loop-i goal.the-decreases-loop-i goal.the-invariant-loop-round goal.the-decreases-loop-round tie.handed_clauses
 
 abbrev Then2 : Type 0
-Then2 = tie.Then2 invariant-loop decreases-loop invariant-loop4 decreases-loop4 invariant-loop5 decreases-loop5 invariant-loop3 decreases-loop3 invariant-loop6 decreases-loop6 invariant-loop2
-    decreases-loop2
+Then2 = lts.Then2 tie.the-claims reads.Pre reads.Post goal.the-invariant-loop-k goal.the-decreases-loop-k goal.the-invariant-loop-j goal.the-decreases-loop-j goal.the-invariant-loop-rest goal.the-decreases-loop-rest goal.the-invariant-loop-q goal.the-decreases-loop-q goal.the-invariant-loop-i goal.the-decreases-loop-i goal.the-invariant-loop-round goal.the-decreases-loop-round tie.handed_clauses
 
 abbrev AfterSmallest : Type 0
-AfterSmallest = tie.After-smallest invariant-loop decreases-loop invariant-loop4 decreases-loop4 invariant-loop5 decreases-loop5 invariant-loop3 decreases-loop3 invariant-loop6
-    decreases-loop6
-    invariant-loop2 decreases-loop2
+AfterSmallest = lts.After-smallest tie.the-claims reads.Pre reads.Post goal.the-invariant-loop-k goal.the-decreases-loop-k goal.the-invariant-loop-j goal.the-decreases-loop-j goal.the-invariant-loop-rest goal.the-decreases-loop-rest goal.the-invariant-loop-q goal.the-decreases-loop-q goal.the-invariant-loop-i goal.the-decreases-loop-i goal.the-invariant-loop-round goal.the-decreases-loop-round tie.handed_clauses
 
 abbrev Then3 : Type 0
-Then3 = tie.Then3 invariant-loop decreases-loop invariant-loop4 decreases-loop4 invariant-loop5 decreases-loop5 invariant-loop3 decreases-loop3 invariant-loop6 decreases-loop6 invariant-loop2
-    decreases-loop2
+Then3 = lts.Then3 tie.the-claims reads.Pre reads.Post goal.the-invariant-loop-k goal.the-decreases-loop-k goal.the-invariant-loop-j goal.the-decreases-loop-j goal.the-invariant-loop-rest goal.the-decreases-loop-rest goal.the-invariant-loop-q goal.the-decreases-loop-q goal.the-invariant-loop-i goal.the-decreases-loop-i goal.the-invariant-loop-round goal.the-decreases-loop-round tie.handed_clauses
 
 abbrev AfterFlipWhere2 : Type 0
-AfterFlipWhere2 = tie.After-flip-where2 invariant-loop decreases-loop invariant-loop4 decreases-loop4 invariant-loop5 decreases-loop5 invariant-loop3 decreases-loop3 invariant-loop6
-    decreases-loop6 invariant-loop2 decreases-loop2
+AfterFlipWhere2 = lts.After-flip_where2 tie.the-claims reads.Pre reads.Post goal.the-invariant-loop-k goal.the-decreases-loop-k goal.the-invariant-loop-j goal.the-decreases-loop-j goal.the-invariant-loop-rest goal.the-decreases-loop-rest goal.the-invariant-loop-q goal.the-decreases-loop-q goal.the-invariant-loop-i goal.the-decreases-loop-i goal.the-invariant-loop-round goal.the-decreases-loop-round tie.handed_clauses
 
 abbrev Joined3 : Type 0
-Joined3 = tie.Joined3 invariant-loop decreases-loop invariant-loop4 decreases-loop4 invariant-loop5 decreases-loop5 invariant-loop3 decreases-loop3 invariant-loop6 decreases-loop6 invariant-loop2
-    decreases-loop2
+Joined3 = lts.Joined3 tie.the-claims reads.Pre reads.Post goal.the-invariant-loop-k goal.the-decreases-loop-k goal.the-invariant-loop-j goal.the-decreases-loop-j goal.the-invariant-loop-rest goal.the-decreases-loop-rest goal.the-invariant-loop-q goal.the-decreases-loop-q goal.the-invariant-loop-i goal.the-decreases-loop-i goal.the-invariant-loop-round goal.the-decreases-loop-round tie.handed_clauses
 
 abbrev AfterPutBit : Type 0
-AfterPutBit = tie.After-put-bit invariant-loop decreases-loop invariant-loop4 decreases-loop4 invariant-loop5 decreases-loop5 invariant-loop3 decreases-loop3 invariant-loop6 decreases-loop6
-    invariant-loop2 decreases-loop2
+AfterPutBit = lts.After-put_bit tie.the-claims reads.Pre reads.Post goal.the-invariant-loop-k goal.the-decreases-loop-k goal.the-invariant-loop-j goal.the-decreases-loop-j goal.the-invariant-loop-rest goal.the-decreases-loop-rest goal.the-invariant-loop-q goal.the-decreases-loop-q goal.the-invariant-loop-i goal.the-decreases-loop-i goal.the-invariant-loop-round goal.the-decreases-loop-round tie.handed_clauses
 
 abbrev AfterRowKnown : Type 0
-AfterRowKnown = tie.After-row-known invariant-loop decreases-loop invariant-loop4 decreases-loop4 invariant-loop5 decreases-loop5 invariant-loop3 decreases-loop3 invariant-loop6
-    decreases-loop6
-    invariant-loop2 decreases-loop2
+AfterRowKnown = lts.After-row_known tie.the-claims reads.Pre reads.Post goal.the-invariant-loop-k goal.the-decreases-loop-k goal.the-invariant-loop-j goal.the-decreases-loop-j goal.the-invariant-loop-rest goal.the-decreases-loop-rest goal.the-invariant-loop-q goal.the-decreases-loop-q goal.the-invariant-loop-i goal.the-decreases-loop-i goal.the-invariant-loop-round goal.the-decreases-loop-round tie.handed_clauses
 
 abbrev AfterSmallest2 : Type 0
-AfterSmallest2 = tie.After-smallest2 invariant-loop decreases-loop invariant-loop4 decreases-loop4 invariant-loop5 decreases-loop5 invariant-loop3 decreases-loop3 invariant-loop6
-    decreases-loop6
-    invariant-loop2 decreases-loop2
+AfterSmallest2 = lts.After-smallest2 tie.the-claims reads.Pre reads.Post goal.the-invariant-loop-k goal.the-decreases-loop-k goal.the-invariant-loop-j goal.the-decreases-loop-j goal.the-invariant-loop-rest goal.the-decreases-loop-rest goal.the-invariant-loop-q goal.the-decreases-loop-q goal.the-invariant-loop-i goal.the-decreases-loop-i goal.the-invariant-loop-round goal.the-decreases-loop-round tie.handed_clauses
 
 abbrev AfterWithoutSmallest : Type 0
-AfterWithoutSmallest = tie.After-without-smallest invariant-loop decreases-loop invariant-loop4 decreases-loop4 invariant-loop5 decreases-loop5 invariant-loop3 decreases-loop3
-    invariant-loop6 decreases-loop6 invariant-loop2 decreases-loop2
+AfterWithoutSmallest = lts.After-without_smallest tie.the-claims reads.Pre reads.Post goal.the-invariant-loop-k goal.the-decreases-loop-k goal.the-invariant-loop-j goal.the-decreases-loop-j goal.the-invariant-loop-rest goal.the-decreases-loop-rest goal.the-invariant-loop-q goal.the-decreases-loop-q goal.the-invariant-loop-i goal.the-decreases-loop-i goal.the-invariant-loop-round goal.the-decreases-loop-round tie.handed_clauses
 
 abbrev AfterLoop5 : Type 0
-AfterLoop5 = tie.After-loop5 invariant-loop decreases-loop invariant-loop4 decreases-loop4 invariant-loop5 decreases-loop5 invariant-loop3 decreases-loop3 invariant-loop6 decreases-loop6
-    invariant-loop2
-    decreases-loop2
+AfterLoop5 = lts.After-loop5 tie.the-claims reads.Pre reads.Post goal.the-invariant-loop-k goal.the-decreases-loop-k goal.the-invariant-loop-j goal.the-decreases-loop-j goal.the-invariant-loop-rest goal.the-decreases-loop-rest goal.the-invariant-loop-q goal.the-decreases-loop-q goal.the-invariant-loop-i goal.the-decreases-loop-i goal.the-invariant-loop-round goal.the-decreases-loop-round tie.handed_clauses
 
 abbrev AfterLoop3 : Type 0
-AfterLoop3 = tie.After-loop3 invariant-loop decreases-loop invariant-loop4 decreases-loop4 invariant-loop5 decreases-loop5 invariant-loop3 decreases-loop3 invariant-loop6 decreases-loop6
-    invariant-loop2
-    decreases-loop2
+AfterLoop3 = lts.After-loop3 tie.the-claims reads.Pre reads.Post goal.the-invariant-loop-k goal.the-decreases-loop-k goal.the-invariant-loop-j goal.the-decreases-loop-j goal.the-invariant-loop-rest goal.the-decreases-loop-rest goal.the-invariant-loop-q goal.the-decreases-loop-q goal.the-invariant-loop-i goal.the-decreases-loop-i goal.the-invariant-loop-round goal.the-decreases-loop-round tie.handed_clauses
 
 abbrev Then4 : Type 0
-Then4 = tie.Then4 invariant-loop decreases-loop invariant-loop4 decreases-loop4 invariant-loop5 decreases-loop5 invariant-loop3 decreases-loop3 invariant-loop6 decreases-loop6 invariant-loop2
-    decreases-loop2
+Then4 = lts.Then4 tie.the-claims reads.Pre reads.Post goal.the-invariant-loop-k goal.the-decreases-loop-k goal.the-invariant-loop-j goal.the-decreases-loop-j goal.the-invariant-loop-rest goal.the-decreases-loop-rest goal.the-invariant-loop-q goal.the-decreases-loop-q goal.the-invariant-loop-i goal.the-decreases-loop-i goal.the-invariant-loop-round goal.the-decreases-loop-round tie.handed_clauses
 
 abbrev AfterLoop2 : Type 0
-AfterLoop2 = tie.After-loop2 invariant-loop decreases-loop invariant-loop4 decreases-loop4 invariant-loop5 decreases-loop5 invariant-loop3 decreases-loop3 invariant-loop6 decreases-loop6
-    invariant-loop2
-    decreases-loop2
+AfterLoop2 = lts.After-loop2 tie.the-claims reads.Pre reads.Post goal.the-invariant-loop-k goal.the-decreases-loop-k goal.the-invariant-loop-j goal.the-decreases-loop-j goal.the-invariant-loop-rest goal.the-decreases-loop-rest goal.the-invariant-loop-q goal.the-decreases-loop-q goal.the-invariant-loop-i goal.the-decreases-loop-i goal.the-invariant-loop-round goal.the-decreases-loop-round tie.handed_clauses
 
 -- ---- places and what they have
 abbrev start-2 : AtLoop2 → Start
@@ -140,15 +116,17 @@ turn c = turn-4 c.before
 
 -- the rows at its start, the rows with the bit that are free
 abbrev rows_in : InLoop3 → ℕ → Pauli
-rows_in c = relative (bit c.before.loop3.signs) c.before.loop3.rows
+rows_in c = relative (bit c.loop-q.signs) c.loop-q.rows
 
 abbrev free_in : Then2 → ℕ
-free_in c = bit_xor c.before.before.loop4.holders (bit_and c.before.before.loop4.holders (turn
+free_in c =
+    bit_xor c.loop-j.holders (bit_and c.loop-j.holders (turn
     c).before.loop3.pivots)
 
 -- the rows after row q was lent the bit, by the first of them
 abbrev lent-in : Then2 → ℕ → Pauli
-lent-in c = shear 64 (rows_in (turn c)) (count_trailing_zeros 64 (free_in c))
+lent-in c =
+    shear 64 (rows_in (turn c)) (count_trailing_zeros 64 (free_in c))
     (lend (rows_in (turn c)) (turn c).before.loop3.q)
 
 -- the array with the row that was lent a bit
@@ -157,19 +135,20 @@ rows-lent c =
     let M = c.before.before.before.before.before.before in
     let L = (turn M.before.before.before).before.loop3 in
     set L.rows L.q (bit_xor (get_or (get_or L.rows L.q []) 0 0)
-    (get_or (get_or L.rows M.smallest.result []) 0 0)
-    ∷ bit_xor (get_or (get_or L.rows L.q []) 1 0) (get_or (get_or L.rows M.smallest.result []) 1 0) ∷ [])
+    (get_or (get_or L.rows M.smallest-i.result []) 0 0)
+    ∷ bit_xor (get_or (get_or L.rows L.q []) 1 0) (get_or (get_or L.rows M.smallest-i.result []) 1 0) ∷ [])
 
 -- before row q is multiplied into others: its number, the signs with its own laid on, and without
 abbrev column-laid : AfterRowKnown → ℕ
 column-laid c = (turn c.before.before.before.before.before.before.before).before.loop3.q
 
 abbrev signs-laid : AfterRowKnown → ℕ
-signs-laid c = bit_xor c.before.before.before.before.before.if3.signs c.before.where-true.result
+signs-laid c = bit_xor c.if-not-has-2.signs c.where_true-signs.result
 
 abbrev signs-before : AfterRowKnown → Word
-signs-before c = without_sign (signs-laid c) (bit (signs-laid c) (column-laid c))
-    c.before.before.before.put-bit.result
+signs-before c =
+    without_sign (signs-laid c) (bit (signs-laid c) (column-laid c))
+    c.put_bit-rest.result
 
 -- ---- the signs made relative
 pub loop-k-init : goal.loop-k-init
@@ -186,15 +165,15 @@ loop-k-preserved c =
     c.odd_pairs.ensures c.flip_where-signs.ensures
 
 related : (c : AtLoop2) (j : ℕ)
-    → relative (bit c.before.before.loop.signs) (start-2 c).args.t1 j
+    → relative (bit c.loop-k.signs) (start-2 c).args.t1 j
     ≡ tableau (start-2 c).args.signs (start-2 c).args.t1 j
 related c =
     let S = (start-2 c) in
-    let L = c.before.before.loop in
-    paired-end S.args.t1 S.args.signs S.args.n L.signs L.k L.invariant c.before.loop-test.false
+    let L = c.loop-k in
+    paired-end S.args.t1 S.args.signs S.args.n L.signs L.k L.invariant c.loop-k-test.false
     S.pre.1
 
-loaded : (c : AtLoop2) → Loaded (start-2 c).args.n (relative (bit c.before.before.loop.signs) (start-2
+loaded : (c : AtLoop2) → Loaded (start-2 c).args.n (relative (bit c.loop-k.signs) (start-2
     c).args.t1)
 loaded c = related-loaded (start-2 c).args.n (related c) (start-2 c).pre.1
 
@@ -207,30 +186,30 @@ loop-round-init c =
       S.well_formed.0.1.0.1,
     )
 
-loaded2 : (c : InLoop2) → Loaded (start-2 c.before).args.n (relative (bit c.before.loop2.signs)
-    c.before.loop2.rows)
+loaded2 : (c : InLoop2) → Loaded (start-2 c.before).args.n (relative (bit c.loop-round.signs)
+    c.loop-round.rows)
 loaded2 c =
     let A = c.before in
     let K = A.before.before in
     let S = start-2 A in
-    let L = A.loop2 in
-    stage-loaded S.args.n S.pre.0.1 K.before.mask.result K.before.mask.ensures
-    (relative (bit K.loop.signs) S.args.t1) (loaded A) (relative (bit L.signs) L.rows) L.pivots
+    let L = A.loop-round in
+    stage-loaded S.args.n S.pre.0.1 K.mask-all.result K.mask-all.ensures
+    (relative (bit K.loop-k.signs) S.args.t1) (loaded A) (relative (bit L.signs) L.rows) L.pivots
     L.hadamards
-    L.round L.invariant.0 c.loop2-test.true
+    L.round L.invariant.0 c.loop-round-test.true
 
 -- ---- a pass
 pub loop-q-init : goal.loop-q-init
 loop-q-init c = (zero-le, c.loop-round.invariant.1, start)
 
-loaded3 : (c : InLoop3) → Loaded (start-3 c).args.n (relative (bit c.before.loop3.signs)
-    c.before.loop3.rows)
+loaded3 : (c : InLoop3) → Loaded (start-3 c).args.n (relative (bit c.loop-q.signs)
+    c.loop-q.rows)
 loaded3 c =
     let I = c.before.before in
-    eliminated-loaded (start-3 c).args.n (start-3 c).pre.0.1 (loaded2 I) c.before.loop3.invariant.2
+    eliminated-loaded (start-3 c).args.n (start-3 c).pre.0.1 (loaded2 I) c.loop-q.invariant.2
 
-column : (c : InLoop3) → c.before.loop3.q < 64
-column c = lt_of_lt_of_le c.loop3-test.true (start-3 c).pre.0.1
+column : (c : InLoop3) → c.loop-q.q < 64
+column c = lt_of_lt_of_le c.loop-q-test.true (start-3 c).pre.0.1
 
 -- the rows with the x bit
 pub loop-j-init : goal.loop-j-init
@@ -273,56 +252,56 @@ loop-j-preserved c =
           I.loop-j-test.true _ (low_bit _ q),
     )
 
-holders : (c : AfterLoop4) (j : ℕ) → bit c.before.loop4.holders j
+holders : (c : AfterLoop4) (j : ℕ) → bit c.loop-j.holders j
     ≡ (ltb j (start-3 (turn-4 c)).args.n && bit (get_or (get_or (turn-4 c).before.loop3.rows j []) 1 0) (turn-4
     c).before.loop3.q)
 holders c =
     let C = (turn-4 c) in
-    let L = c.before.loop4 in
+    let L = c.loop-j in
     from_end (start-3 C).args.n (λ i. bit (get_or (get_or C.before.loop3.rows i []) 1 0) C.before.loop3.q)
     L.holders L.j
-    L.invariant.1 (omega (arith, c.loop4-test.false))
+    L.invariant.1 (omega (arith, c.loop-j-test.false))
 
 -- row i, free, may lend its bit
 ready : (c : Then2) (i : ℕ) → i ≡ count_trailing_zeros 64 (free_in c)
-    → PivotReady (rows_in (turn c)) (turn c).before.loop3.q i c.before.before.loop4.holders
+    → PivotReady (rows_in (turn c)) (turn c).before.loop3.q i c.loop-j.holders
 ready c i e =
     let C = (turn c) in
     let S = (start-3 C) in
     let L = C.before.loop3 in
     pivot-ready S.args.n L.q S.pre.0.1 C.loop3-test.taken (rows_in C) (loaded3 C)
-    c.before.before.loop4.holders
+    c.loop-j.holders
     L.pivots _ (holders c.before) refl i
     (free-row S.args.n L.q S.pre.0.1 C.loop3-test.taken (rows_in C) (loaded3 C)
-    c.before.before.loop4.holders
-    L.pivots _ (holders c.before) refl c.if2.true i e)
+    c.loop-j.holders
+    L.pivots _ (holders c.before) refl c.if-free-ne0.true i e)
     (λ j. minus-real (bit L.signs j ⊕ half_y (get_or (get_or L.rows j []) 0 0) (get_or (get_or L.rows j []) 1 0)))
 
-lender : (c : AfterSmallest) → c.smallest.result < 64
-lender c = (ready c.before.before.before c.smallest.result c.smallest.ensures.0).lender
+lender : (c : AfterSmallest) → c.smallest-i.result < 64
+lender c = (ready c.before.before.before c.smallest-i.result c.smallest-i.ensures.0).lender
 
 pub offset_bounds-rows-i : goal.offset_bounds-rows-i
-offset_bounds-rows-i c = omega (arith, lender c)
+offset_bounds-rows-i c = omega (arith, lender c.before)
 
 pub bounds-rows-i : goal.bounds-rows-i
-bounds-rows-i c = omega (arith, lender c)
+bounds-rows-i c = omega (arith, lender c.before)
 
 pub has-requires-then-not-has-2 : goal.has-requires-then-not-has-2
 has-requires-then-not-has-2 c = lender c.before.before.before.before.before
 
-lacks : (c : Then3) → bit c.before.before.before.before.loop4.holders
+lacks : (c : Then3) → bit c.loop-j.holders
     (turn c.before.before).before.loop3.q ≡
     false
-lacks c = sym c.before.has2.ensures ∙ not-true _ c.if3.true
+lacks c = sym c.has-then-free-ne0.ensures ∙ not-true _ c.if-not-has-2.true-raw
 
 lending : (c : AfterSmallest) (k : ℕ) → bit (2 ^ (turn c.before.before.before).before.loop3.q) k ≡ true
     → anticommute 64 ((rows_in (turn c.before.before.before)) k) ((rows_in (turn c.before.before.before))
-    c.smallest.result) ≡ false
+    c.smallest-i.result) ≡ false
 lending c =
     let D = c.before.before.before in
     let C = (turn D) in
-    lent-commutes (rows_in C) C.before.loop3.q c.smallest.result D.before.before.loop4.holders
-    (ready D c.smallest.result c.smallest.ensures.0) (lacks c.before) (2 ^ C.before.loop3.q) refl
+    lent-commutes (rows_in C) C.before.loop3.q c.smallest-i.result D.loop-j.holders
+    (ready D c.smallest-i.result c.smallest-i.ensures.0) (lacks c.before) (2 ^ C.before.loop3.q) refl
 
 pub minus_word-requires : goal.minus_word-requires
 minus_word-requires c =
@@ -340,14 +319,14 @@ lent-long c =
     let M = W.before.before.before in
     let C = (turn M.before.before.before) in
     let L = C.before.loop3 in
-    alone-long L.rows L.signs M.smallest.result L.q L.inv.1 (column C) (lending M) _
-    c.flip-where2.result H.has3.result (is_odd (ones W.minus-word.result)) H.has3.ensures
-    W.minus-word.ensures
-    refl (λ k. c.flip-where2.ensures k
-    ∙ ap (λ v. bit L.signs k ⊕ (eqb k L.q && not (beq H.has3.result v))) O.odd.ensures)
+    alone-long L.rows L.signs M.smallest-i.result L.q L.inv.1 (column C) (lending M) _
+    c.flip_where-signs-then-not-has-2.result H.has-then-not-has-2.result (is_odd (ones W.minus_word.result)) H.has-then-not-has-2.ensures
+    W.minus_word.ensures
+    refl (λ k. c.flip_where-signs-then-not-has-2.ensures k
+    ∙ ap (λ v. bit L.signs k ⊕ (eqb k L.q && not (beq H.has-then-not-has-2.result v))) O.odd-minus.ensures)
 
 lent_row : (c : AfterFlipWhere2) (j : ℕ)
-    → relative (bit c.flip-where2.result) (rows-lent c) j
+    → relative (bit c.flip_where-signs-then-not-has-2.result) (rows-lent c) j
     ≡ (lent-in c.before.before.before.before.before.before.before.before.before) j
 lent_row c j =
     let H = c.before in
@@ -356,19 +335,19 @@ lent_row c j =
     let M = W.before.before.before in
     let C = (turn M.before.before.before) in
     let L = C.before.loop3 in
-    alone-sheared L.rows L.signs M.smallest.result L.q L.inv.1 (column C) (lending M) _
-    c.flip-where2.result H.has3.result (is_odd (ones W.minus-word.result)) H.has3.ensures
-    W.minus-word.ensures
-    refl (λ k. c.flip-where2.ensures k
-    ∙ ap (λ v. bit L.signs k ⊕ (eqb k L.q && not (beq H.has3.result v))) O.odd.ensures) j
-    ∙ lent-now (rows_in C) L.q M.smallest.result M.before.before.before.before.before.loop4.holders
-    (ready M.before.before.before M.smallest.result M.smallest.ensures.0) (lacks M.before) (2 ^ L.q)
+    alone-sheared L.rows L.signs M.smallest-i.result L.q L.inv.1 (column C) (lending M) _
+    c.flip_where-signs-then-not-has-2.result H.has-then-not-has-2.result (is_odd (ones W.minus_word.result)) H.has-then-not-has-2.ensures
+    W.minus_word.ensures
+    refl (λ k. c.flip_where-signs-then-not-has-2.ensures k
+    ∙ ap (λ v. bit L.signs k ⊕ (eqb k L.q && not (beq H.has-then-not-has-2.result v))) O.odd-minus.ensures) j
+    ∙ lent-now (rows_in C) L.q M.smallest-i.result M.loop-j.holders
+    (ready M.before.before.before M.smallest-i.result M.smallest-i.ensures.0) (lacks M.before) (2 ^ L.q)
     refl
     j
-    ∙ ap (λ v. shear 64 (rows_in C) v (lend (rows_in C) L.q) j) M.smallest.ensures.0
+    ∙ ap (λ v. shear 64 (rows_in C) v (lend (rows_in C) L.q) j) M.smallest-i.ensures.0
 
 -- where the arms meet: row q has the bit, lent or its own
-long : (c : Joined3) → length c.if3.rows ≡ 64
+long : (c : Joined3) → length c.if-not-has-2.rows ≡ 64
 long c =
     ⊎_elim (λ w. ap length w.9 ∙ lent-long (record {
       before = record {
@@ -389,9 +368,9 @@ long c =
       };
       flip-where2 = w.7;
     }))
-    (λ w. ap length w.2 ∙ (turn c.before.before).before.loop3.inv.1) c.if3.branch
+    (λ w. ap length w.2 ∙ (turn c.before.before).before.loop3.inv.1) c.if-not-has-2.branch
 
-lent : (c : Joined3) (j : ℕ) → relative (bit c.if3.signs) c.if3.rows j
+lent : (c : Joined3) (j : ℕ) → relative (bit c.if-not-has-2.signs) c.if-not-has-2.rows j
     ≡ (lent-in c.before.before) j
 lent c j =
     let D = c.before.before in
@@ -422,64 +401,64 @@ lent c j =
     })
     j)
     (λ w. ap₂ (λ m v. relative (bit m) v j) w.1 w.2
-    ∙ lent-already (rows_in C) C.before.loop3.q (count_trailing_zeros 64 (free_in D)) D.before.before.loop4.holders
-    (ready D _ refl) (sym c.before.has2.ensures ∙ not-false _ w.0.left) j)
-    c.if3.branch
+    ∙ lent-already (rows_in C) C.before.loop3.q (count_trailing_zeros 64 (free_in D)) D.loop-j.holders
+    (ready D _ refl) (sym c.has-then-free-ne0.ensures ∙ not-false _ w.0.left) j)
+    c.if-not-has-2.branch
 
-not_named : (c : AfterPutBit) → bit c.put-bit.result (turn c.before.before.before.before).before.loop3.q
+not_named : (c : AfterPutBit) → bit c.put_bit-rest.result (turn c.before.before.before.before).before.loop3.q
     ≡
     false
 not_named c =
     let J = c.before.before in
     let D = J.before.before in
     let C = (turn D) in
-    pivot-not-named (rows_in C) C.before.loop3.q (count_trailing_zeros 64 (free_in D)) D.before.before.loop4.holders
-    (ready D _ refl) _ (lent J) c.put-bit.result c.put-bit.ensures
+    pivot-not-named (rows_in C) C.before.loop3.q (count_trailing_zeros 64 (free_in D)) D.loop-j.holders
+    (ready D _ refl) _ (lent J) c.put_bit-rest.result c.put_bit-rest.ensures
 
 -- the sign of row q is the one that is laid on the rows named
-same_sign : (c : AfterRowKnown) → c.before.before.has4.result ≡ bit (signs-laid c) (column-laid c)
+same_sign : (c : AfterRowKnown) → c.has-then-free-ne0-2.result ≡ bit (signs-laid c) (column-laid c)
 same_sign c =
     let P = c.before.before.before in
-    c.before.before.has4.ensures
-    ∙ sym (bit-xor _ c.before.where-true.result (column-laid c)
-    ∙ ap (λ v. bit P.before.before.if3.signs (column-laid c) ⊕ v)
-    (c.before.where-true.ensures (column-laid c) ∙ ap (λ v. c.before.before.has4.result && v) (not_named P))
-    ∙ bits 2 (λ u v. u ⊕ (v && false)) (λ u v. u) tt (bit P.before.before.if3.signs (column-laid c))
-    c.before.before.has4.result)
+    c.has-then-free-ne0-2.ensures
+    ∙ sym (bit-xor _ c.where_true-signs.result (column-laid c)
+    ∙ ap (λ v. bit P.if-not-has-2.signs (column-laid c) ⊕ v)
+    (c.where_true-signs.ensures (column-laid c) ∙ ap (λ v. c.has-then-free-ne0-2.result && v) (not_named P))
+    ∙ bits 2 (λ u v. u ⊕ (v && false)) (λ u v. u) tt (bit P.if-not-has-2.signs (column-laid c))
+    c.has-then-free-ne0-2.result)
 
 lent_laid : (c : AfterRowKnown) (j : ℕ) → relative (signs-before c)
-    c.before.before.before.before.before.if3.rows j
+    c.if-not-has-2.rows j
     ≡ (lent-in c.before.before.before.before.before.before.before) j
 lent_laid c j =
     let P = c.before.before.before in
     let J = P.before.before in
-    ap (λ b. relative_row b (get_or J.if3.rows j []))
-    (laid_on J.if3.signs (signs-laid c) P.put-bit.result c.before.where-true.result (bit (signs-laid c)
+    ap (λ b. relative_row b (get_or J.if-not-has-2.rows j []))
+    (laid_on J.if-not-has-2.signs (signs-laid c) P.put_bit-rest.result c.where_true-signs.result (bit (signs-laid c)
     (column-laid c))
-    (λ k. c.before.where-true.ensures k ∙ ap (λ v. v && bit P.put-bit.result k) (same_sign c)) refl j)
+    (λ k. c.where_true-signs.ensures k ∙ ap (λ v. v && bit P.put_bit-rest.result k) (same_sign c)) refl j)
     ∙ lent J j
 
-commutes : (c : AfterRowKnown) (j : ℕ) → bit c.before.before.before.put-bit.result j ≡ true
-    → anticommute 64 (relative (signs-before c) c.before.before.before.before.before.if3.rows j) (relative
-    (signs-before c) c.before.before.before.before.before.if3.rows (column-laid c)) ≡ false
+commutes : (c : AfterRowKnown) (j : ℕ) → bit c.put_bit-rest.result j ≡ true
+    → anticommute 64 (relative (signs-before c) c.if-not-has-2.rows j) (relative
+    (signs-before c) c.if-not-has-2.rows (column-laid c)) ≡ false
 commutes c =
     let P = c.before.before.before in
     let J = P.before.before in
     let D = J.before.before in
     let C = (turn D) in
     cleared-commutes (rows_in C) C.before.loop3.q (count_trailing_zeros 64 (free_in D))
-    D.before.before.loop4.holders
-    (ready D _ refl) _ (lent_laid c) P.put-bit.result P.put-bit.ensures
+    D.loop-j.holders
+    (ready D _ refl) _ (lent_laid c) P.put_bit-rest.result P.put_bit-rest.ensures
     (far-row C.before.loop3.rows (bit C.before.loop3.signs) C.before.loop3.q C.before.loop3.inv.1)
 
-named-far : (c : AfterRowKnown) (t : ℕ) → 64 ≤ t → bit c.before.before.before.put-bit.result t ≡ false
+named-far : (c : AfterRowKnown) (t : ℕ) → 64 ≤ t → bit c.put_bit-rest.result t ≡ false
 named-far c t l =
     let P = c.before.before.before in
     let J = P.before.before in
     let D = J.before.before in
     let C = (turn D) in
-    P.put-bit.ensures t
-    ∙ put_other (bit D.before.before.loop4.holders) C.before.loop3.q false t
+    P.put_bit-rest.ensures t
+    ∙ put_other (bit D.loop-j.holders) C.before.loop3.q false t
     (λ p. lt_irrefl 64 (omega (arith, column C, l, p)))
     ∙ (ready D _ refl).holds t
     ∙ far-row C.before.loop3.rows (bit C.before.loop3.signs) C.before.loop3.q C.before.loop3.inv.1
@@ -490,25 +469,25 @@ pub loop-rest-init : goal.loop-rest-init
 loop-rest-init c =
     let P = c.before.before.before.before in
     let J = P.before.before in
-    shear-start J.if-not-has-2.rows (signs-before c) (column-laid c) P.put_bit-rest.result (long J)
+    shear-start J.if-not-has-2.rows (signs-before c.before) (column-laid c.before) P.put_bit-rest.result (long J)
 
-next : (c : AfterSmallest2) → (c.smallest2.result < 64) × (bit c.before.before.loop5.rest c.smallest2.result
+next : (c : AfterSmallest2) → (c.smallest-i-in-loop-rest.result < 64) × (bit c.loop-rest.rest c.smallest-i-in-loop-rest.result
     ≡
     true)
 next c =
-    let L = c.before.before.loop5 in
+    let L = c.loop-rest in
     let K = c.before.before.before in
     let P = K.before.before.before in
-    next_row P.before.before.if3.rows (signs-before K) (column-laid K) P.put-bit.result L.rows
+    next_row P.if-not-has-2.rows (signs-before K) (column-laid K) P.put_bit-rest.result L.rows
     (without_sign L.signs (bit (signs-laid K) (column-laid K)) L.rest) L.rest L.invariant (named-far K)
-    c.before.loop5-test.true
-    c.smallest2.ensures.0
+    c.loop-rest-test.true
+    c.smallest-i-in-loop-rest.ensures.0
 
 pub offset_bounds-rows-i-in-loop-rest : goal.offset_bounds-rows-i-in-loop-rest
-offset_bounds-rows-i-in-loop-rest c = omega (arith, (next c).0)
+offset_bounds-rows-i-in-loop-rest c = omega (arith, (next c.before).0)
 
 pub bounds-rows-i-in-loop-rest : goal.bounds-rows-i-in-loop-rest
-bounds-rows-i-in-loop-rest c = omega (arith, (next c).0)
+bounds-rows-i-in-loop-rest c = omega (arith, (next c.before).0)
 
 pub minus_word-minus-requires : goal.minus_word-minus-requires
 minus_word-minus-requires c =
@@ -542,13 +521,13 @@ loop-rest-smaller c =
     subst (λ v. v < L.rest) (sym c.without_smallest-rest.ensures)
     (flip-less L.rest _ (sym (ap (bit L.rest) N.smallest-i-in-loop-rest.ensures.0) ∙ (next N).1))
 
-fewer : (c : AfterWithoutSmallest) → c.without-smallest.result
-    ≡ bit_xor c.before.before.before.before.before.before.loop5.rest (2 ^
-    c.before.before.before.before.smallest2.result)
+fewer : (c : AfterWithoutSmallest) → c.without_smallest-rest.result
+    ≡ bit_xor c.loop-rest.rest (2 ^
+    c.smallest-i-in-loop-rest.result)
 fewer c =
     let N = c.before.before.before.before in
-    c.without-smallest.ensures ∙ ap (λ k. bit_xor N.before.before.loop5.rest (2 ^ k))
-    (sym N.smallest2.ensures.0)
+    c.without_smallest-rest.ensures ∙ ap (λ k. bit_xor N.loop-rest.rest (2 ^ k))
+    (sym N.smallest-i-in-loop-rest.ensures.0)
 
 pub loop-rest-preserved : goal.loop-rest-preserved
 loop-rest-preserved c =
@@ -568,16 +547,16 @@ loop-rest-preserved c =
     (sign-step L.signs c.flip_odd-signs.result L.rest c.without_smallest-rest.result N.smallest-i-in-loop-rest.result
     (bit (signs-laid K) (column-laid K)) ((signs-before K) (column-laid K)) (is_odd (ones W.minus_word-minus.result))
     (sign_kept (signs-laid K) (column-laid K) P.put_bit-rest.result (bit (signs-laid K) (column-laid K)) (not_named P))
-    c.flip_odd-signs.ensures (fewer c)) (fewer c)
+    c.flip_odd-signs.ensures (fewer c.before)) (fewer c.before)
 
 -- column q has its pivot
-pivot-done : (c : AfterLoop5) (j : ℕ) → relative (bit c.before.loop5.signs) c.before.loop5.rows j
+pivot-done : (c : AfterLoop5) (j : ℕ) → relative (bit c.loop-rest.signs) c.loop-rest.rows j
     ≡ pivot_on 64 (rows_in (turn c.before.before.before.before.before.before.before.before.before)) (turn
     c.before.before.before.before.before.before.before.before.before).before.loop3.q
     (count_trailing_zeros 64 (free_in
     c.before.before.before.before.before.before.before.before.before)) j
 pivot-done c j =
-    let L = c.before.loop5 in
+    let L = c.loop-rest in
     let K = c.before.before in
     let P = K.before.before.before in
     let J = P.before.before in
@@ -585,12 +564,12 @@ pivot-done c j =
     let C = (turn D) in
     ap (λ b. relative_row b (get_or L.rows j [])) (sym (sign-end L.signs L.rest
     (bit (signs-laid K) (column-laid K))
-    c.loop5-test.false j))
-    ∙ shear-end J.if3.rows (signs-before K) (column-laid K) P.put-bit.result L.rows
+    c.loop-rest-test.false j))
+    ∙ shear-end J.if-not-has-2.rows (signs-before K) (column-laid K) P.put_bit-rest.result L.rows
     (without_sign L.signs (bit (signs-laid K) (column-laid K)) L.rest) L.rest L.invariant
-    (λ k. ap (λ v. bit v k) c.loop5-test.false ∙ zero_bit k) j
-    ∙ cleared (rows_in C) C.before.loop3.q (count_trailing_zeros 64 (free_in D)) D.before.before.loop4.holders
-    (ready D _ refl) _ (lent_laid K) P.put-bit.result P.put-bit.ensures j
+    (λ k. ap (λ v. bit v k) c.loop-rest-test.false ∙ zero_bit k) j
+    ∙ cleared (rows_in C) C.before.loop3.q (count_trailing_zeros 64 (free_in D)) D.loop-j.holders
+    (ready D _ refl) _ (lent_laid K) P.put_bit-rest.result P.put_bit-rest.ensures j
 
 -- ---- the next column
 pub loop-q-preserved : goal.loop-q-preserved
@@ -678,12 +657,12 @@ loop-q-preserved c =
 
 -- ---- the Hadamards
 passed : (c : AfterLoop3) → Eliminated (start-2 c.before.before.before).args.n (relative (bit
-    c.before.before.before.loop2.signs) c.before.before.before.loop2.rows)
-    (bit c.before.before.before.loop2.pivots) (relative (bit c.before.loop3.signs) c.before.loop3.rows)
-    (bit c.before.loop3.pivots) (start-2 c.before.before.before).args.n
+    c.loop-round.signs) c.loop-round.rows)
+    (bit c.loop-round.pivots) (relative (bit c.loop-q.signs) c.loop-q.rows)
+    (bit c.loop-q.pivots) (start-2 c.before.before.before).args.n
 passed c =
-    let L = c.before.loop3 in
-    let done : L.q ≡ (start-2 c.before.before.before).args.n = omega (arith, L.invariant.0, c.loop3-test.false) in
+    let L = c.loop-q in
+    let done : L.q ≡ (start-2 c.before.before.before).args.n = omega (arith, L.invariant.0, c.loop-q-test.false) in
     eliminated-at done L.invariant.2
 
 pub loop-i-init : goal.loop-i-init
@@ -691,17 +670,17 @@ loop-i-init c =
     let A = c.before.before.before in
     rotate-start A.loop-q.rows A.loop-q.signs _ _ A.loop-q.invariant.1
 
-few : (c : Then4) → bit_xor c.before.before.before.before.before.before.before.mask.result
-    c.before.before.loop3.pivots < 2 ^ 64
+few : (c : Then4) → bit_xor c.mask-all.result
+    c.loop-q.pivots < 2 ^ 64
 few c =
     let A = c.before.before.before.before in
     let K = A.before.before in
     let S = start-2 A in
-    let L = A.loop2 in
-    stage-turned S.args.n S.pre.0.1 K.before.mask.result K.before.mask.ensures
-    (relative (bit K.loop.signs) S.args.t1) (loaded A) (relative (bit L.signs) L.rows) L.pivots
+    let L = A.loop-round in
+    stage-turned S.args.n S.pre.0.1 K.mask-all.result K.mask-all.ensures
+    (relative (bit K.loop-k.signs) S.args.t1) (loaded A) (relative (bit L.signs) L.rows) L.pivots
     L.hadamards
-    L.round L.invariant.0 c.if4.true _ c.before.before.loop3.pivots (passed c.before)
+    L.round L.invariant.0 c.if-round-eq0.true _ c.loop-q.pivots (passed c.before)
 
 pub loop-i-preserved : goal.loop-i-preserved
 loop-i-preserved c =
@@ -754,12 +733,13 @@ loop-round-preserved c =
     )
 
 -- ---- the end
-ended : (c : AfterLoop2) → Both (start-2 c.before).args.n c.before.before.before.before.mask.result
-    (relative (bit c.before.before.before.loop.signs) (start-2 c.before).args.t1)
-    (relative (bit c.before.loop2.signs) c.before.loop2.rows) c.before.loop2.pivots
-    c.before.loop2.hadamards
-ended c = let L = c.before.loop2 in
-    L.invariant.0.both (omega (arith, L.invariant.0.upto, c.loop2-test.false))
+ended : (c : AfterLoop2) → Both (start-2 c.before).args.n c.mask-all.result
+    (relative (bit c.loop-k.signs) (start-2 c.before).args.t1)
+    (relative (bit c.loop-round.signs) c.loop-round.rows) c.loop-round.pivots
+    c.loop-round.hadamards
+ended c =
+    let L = c.loop-round in
+    L.invariant.0.both (omega (arith, L.invariant.0.upto, c.loop-round-test.false))
 
 pub returns-then-pivots-all : goal.returns-then-pivots-all
 returns-then-pivots-all c =

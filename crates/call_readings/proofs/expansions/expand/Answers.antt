@@ -11,10 +11,10 @@ use Rattle.call_readings.proofs.expansions.expand.Goals as goal
 
 -- where the lemmas below stand
 abbrev AfterOtherThan3 : Type 0
-AfterOtherThan3 = lts.After-other_than3 reads.Pre reads.Post tie.handed_clauses
+AfterOtherThan3 = lts.After-other_than3 tie.the-claims reads.Pre reads.Post tie.handed_clauses
 
 abbrev Start : Type 0
-Start = lts.Start reads.Pre reads.Post tie.handed_clauses
+Start = lts.Start tie.the-claims reads.Pre reads.Post tie.handed_clauses
 
 -- the record that is lent
 abbrev lent : Start → UsedRecord

@@ -15,7 +15,7 @@ use Rattle.call_readings.proofs.images.image.Goals as goal
 
 -- where the lemmas below stand
 abbrev ElseEarlyNe0 : Type 0
-ElseEarlyNe0 = lts.Else1 reads.Pre reads.Post tie.handed_clauses
+ElseEarlyNe0 = lts.Else1 tie.the-claims reads.Pre reads.Post tie.handed_clauses
 
 pub returns-then-early-ne0 : goal.returns-then-early-ne0
 returns-then-early-ne0 c =

@@ -12,7 +12,7 @@ use Rattle.image_impl.proofs.answer.begin.Goals as goal
 
 -- where the lemmas below stand
 abbrev AfterSharedSliceKnown1 : Type 0
-AfterSharedSliceKnown1 = lts.After-shared_slice_known reads.Pre reads.Post goal.the-invariant-loop-q goal.the-decreases-loop-q tie.handed_clauses
+AfterSharedSliceKnown1 = lts.After-shared_slice_known tie.the-claims reads.Pre reads.Post goal.the-invariant-loop-q goal.the-decreases-loop-q tie.handed_clauses
 
 -- the codes
 abbrev codes : AfterSharedSliceKnown1 → List ℕ

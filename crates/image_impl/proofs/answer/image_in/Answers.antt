@@ -13,7 +13,7 @@ use Rattle.image_impl.proofs.answer.image_in.Goals as goal
 
 -- where the lemmas below stand
 abbrev AfterActionOfLeft : Type 0
-AfterActionOfLeft = lts.After-action_of reads.Pre reads.Post tie.handed_clauses
+AfterActionOfLeft = lts.After-action_of tie.the-claims reads.Pre reads.Post tie.handed_clauses
 
 pub copy_record-requires : goal.copy_record-requires
 copy_record-requires c = let s = c.before.before.before.before.before.before.before.before in record { codes_len = unrefused-long _ _ s.requires.unrefused; words_len = (s.requires.words_len.0, s.requires.words_len.1) }

@@ -12,10 +12,10 @@ use Rattle.jobs_replies.proofs.answers.run.Goals as goal
 
 -- where the lemmas below stand
 abbrev AfterRunStepsUsed : Type 0
-AfterRunStepsUsed = lts.After-run_steps reads.Pre reads.Post tie.handed_clauses
+AfterRunStepsUsed = lts.After-run_steps tie.the-claims reads.Pre reads.Post tie.handed_clauses
 
 abbrev Start : Type 0
-Start = lts.Start reads.Pre reads.Post tie.handed_clauses
+Start = lts.Start tie.the-claims reads.Pre reads.Post tie.handed_clauses
 
 -- the record that is lent
 abbrev lent : Start → UsedRecord

@@ -18,7 +18,7 @@ use Rattle.operations_measurement.proofs.isolation.remove_turning.Goals as goal
 
 -- where the lemmas below stand
 abbrev AfterSmallestI : Type 0
-AfterSmallestI = lts.After-smallest reads.Pre reads.Post goal.the-invariant-loop-rest goal.the-decreases-loop-rest tie.handed_clauses
+AfterSmallestI = lts.After-smallest tie.the-claims reads.Pre reads.Post goal.the-invariant-loop-rest goal.the-decreases-loop-rest tie.handed_clauses
 
 pub single-away-requires : goal.single-away-requires
 single-away-requires c = lt_of_lt_of_le c.requires.1 (unrefused-short _ _ c.requires.0)

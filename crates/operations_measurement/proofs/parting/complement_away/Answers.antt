@@ -18,7 +18,7 @@ use Rattle.operations_measurement.proofs.parting.complement_away.Goals as goal
 
 -- where the lemmas below stand
 abbrev AfterSmallestI : Type 0
-AfterSmallestI = lts.After-smallest reads.Pre reads.Post goal.the-invariant-loop-rest goal.the-decreases-loop-rest tie.handed_clauses
+AfterSmallestI = lts.After-smallest tie.the-claims reads.Pre reads.Post goal.the-invariant-loop-rest goal.the-decreases-loop-rest tie.handed_clauses
 
 pub single-requires : goal.single-requires
 single-requires c =

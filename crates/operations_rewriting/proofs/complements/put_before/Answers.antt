@@ -12,7 +12,7 @@ use Rattle.operations_rewriting.proofs.complements.put_before.Goals as goal
 
 -- where the lemmas below stand
 abbrev AfterSmallestI : Type 0
-AfterSmallestI = lts.After-smallest reads.Pre reads.Post goal.the-invariant-loop-rest goal.the-decreases-loop-rest tie.handed_clauses
+AfterSmallestI = lts.After-smallest tie.the-claims reads.Pre reads.Post goal.the-invariant-loop-rest goal.the-decreases-loop-rest tie.handed_clauses
 
 pub loop-rest-init : goal.loop-rest-init
 loop-rest-init c =

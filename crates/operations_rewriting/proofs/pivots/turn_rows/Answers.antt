@@ -15,7 +15,7 @@ use Rattle.operations_rewriting.proofs.pivots.turn_rows.Goals as goal
 
 -- where the lemmas below stand
 abbrev AfterSmallestI : Type 0
-AfterSmallestI = lts.After-smallest reads.Pre reads.Post goal.the-invariant-loop-rest goal.the-decreases-loop-rest tie.handed_clauses
+AfterSmallestI = lts.After-smallest tie.the-claims reads.Pre reads.Post goal.the-invariant-loop-rest goal.the-decreases-loop-rest tie.handed_clauses
 
 -- there are as many codes as words
 codes-short : {m n : ℕ} → (n ≤ 64) × (m ≡ n) → m ≤ 64

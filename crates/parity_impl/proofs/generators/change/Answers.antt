@@ -15,7 +15,7 @@ use Rattle.parity_impl.proofs.generators.change.Goals as goal
 
 -- where the lemmas below stand
 abbrev InLoopJ : Type 0
-InLoopJ = lts.In-loop reads.Pre reads.Post goal.the-invariant-loop-j goal.the-decreases-loop-j tie.handed_clauses
+InLoopJ = lts.In-loop tie.the-claims reads.Pre reads.Post goal.the-invariant-loop-j goal.the-decreases-loop-j tie.handed_clauses
 
 pub bounds-zs-g : goal.bounds-zs-g
 bounds-zs-g c =

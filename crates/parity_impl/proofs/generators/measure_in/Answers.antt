@@ -13,16 +13,16 @@ use Rattle.parity_impl.proofs.generators.measure_in.Goals as goal
 
 -- where the lemmas below stand
 abbrev AfterChange : Type 0
-AfterChange = lts.After-change reads.Pre reads.Post tie.handed_clauses
+AfterChange = lts.After-change tie.the-claims reads.Pre reads.Post tie.handed_clauses
 
 abbrev AfterExpandInto : Type 0
-AfterExpandInto = lts.After-expand_into reads.Pre reads.Post tie.handed_clauses
+AfterExpandInto = lts.After-expand_into tie.the-claims reads.Pre reads.Post tie.handed_clauses
 
 abbrev AfterFirstAgainstG : Type 0
-AfterFirstAgainstG = lts.After-first_against reads.Pre reads.Post tie.handed_clauses
+AfterFirstAgainstG = lts.After-first_against tie.the-claims reads.Pre reads.Post tie.handed_clauses
 
 abbrev Start : Type 0
-Start = lts.Start reads.Pre reads.Post tie.handed_clauses
+Start = lts.Start tie.the-claims reads.Pre reads.Post tie.handed_clauses
 
 abbrev lent : Start → LentRecord
 lent S = record_in S.args.neighbours.now S.args.codes.now

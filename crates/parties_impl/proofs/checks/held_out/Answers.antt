@@ -18,7 +18,7 @@ use Rattle.parties_impl.proofs.checks.held_out.Goals as goal
 
 -- where the lemmas below stand
 abbrev AfterReachesOut : Type 0
-AfterReachesOut = lts.After-reaches_out reads.Pre reads.Post goal.the-invariant-loop-i goal.the-decreases-loop-i tie.handed_clauses
+AfterReachesOut = lts.After-reaches_out tie.the-claims reads.Pre reads.Post goal.the-invariant-loop-i goal.the-decreases-loop-i tie.handed_clauses
 
 pub loop-i-init : goal.loop-i-init
 loop-i-init c = (omega arith, none_yet _)

@@ -10,7 +10,7 @@ use Rattle.parties_impl.proofs.checks.places_refusal.Goals as goal
 
 -- where the lemmas below stand
 abbrev Start : Type 0
-Start = lts.Start reads.Pre reads.Post tie.handed_clauses
+Start = lts.Start tie.the-claims reads.Pre reads.Post tie.handed_clauses
 
 -- the store that is lent
 abbrev lent : Start → Store

@@ -10,7 +10,7 @@ use Rattle.store_impl.proofs.checks.store_number.Goals as goal
 
 -- where the lemmas below stand
 abbrev Start : Type 0
-Start = lts.Start reads.Pre reads.Post goal.the-invariant-loop-i goal.the-decreases-loop-i tie.handed_clauses
+Start = lts.Start tie.the-claims reads.Pre reads.Post goal.the-invariant-loop-i goal.the-decreases-loop-i tie.handed_clauses
 
 -- the store that is lent
 abbrev lent : Start → Store

@@ -20,7 +20,7 @@ use Rattle.text_impl.proofs.blocks.scan_block.Goals as goal
 
 -- where the lemmas below stand
 abbrev ThenRowCount : Type 0
-ThenRowCount = lts.Then1 reads.Pre reads.Post goal.the-invariant-loop-i goal.the-decreases-loop-i tie.handed_clauses
+ThenRowCount = lts.Then1 tie.the-claims reads.Pre reads.Post goal.the-invariant-loop-i goal.the-decreases-loop-i tie.handed_clauses
 
 pub loop-i-init : goal.loop-i-init
 unfolding fed_bytes

@@ -15,7 +15,7 @@ use Rattle.text_records.proofs.lines.read_printing.Goals as goal
 
 -- where the lemmas below stand
 abbrev Start : Type 0
-Start = lts.Start reads.Pre reads.Post tie.handed_clauses
+Start = lts.Start tie.the-claims reads.Pre reads.Post tie.handed_clauses
 
 -- the number and its space have at most 21 bytes
 short : (S : Start) → length (numeral S.args.q) + 1 ≤ 21

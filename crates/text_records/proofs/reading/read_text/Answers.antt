@@ -14,16 +14,16 @@ use Rattle.text_records.proofs.reading.read_text.Goals as goal
 
 -- where the lemmas below stand
 abbrev AfterReadLineRead : Type 0
-AfterReadLineRead = lts.After-read_line reads.Pre reads.Post goal.the-invariant-loop-at goal.the-decreases-loop-at tie.handed_clauses
+AfterReadLineRead = lts.After-read_line tie.the-claims reads.Pre reads.Post goal.the-invariant-loop-at goal.the-decreases-loop-at tie.handed_clauses
 
 abbrev AfterStartsWith : Type 0
-AfterStartsWith = lts.After-starts_with reads.Pre reads.Post goal.the-invariant-loop-at goal.the-decreases-loop-at tie.handed_clauses
+AfterStartsWith = lts.After-starts_with tie.the-claims reads.Pre reads.Post goal.the-invariant-loop-at goal.the-decreases-loop-at tie.handed_clauses
 
 abbrev AtLoopAt : Type 0
-AtLoopAt = lts.At-loop reads.Pre reads.Post goal.the-invariant-loop-at goal.the-decreases-loop-at tie.handed_clauses
+AtLoopAt = lts.At-loop tie.the-claims reads.Pre reads.Post goal.the-invariant-loop-at goal.the-decreases-loop-at tie.handed_clauses
 
 abbrev ElseNotFits : Type 0
-ElseNotFits = lts.Else2 reads.Pre reads.Post goal.the-invariant-loop-at goal.the-decreases-loop-at tie.handed_clauses
+ElseNotFits = lts.Else2 tie.the-claims reads.Pre reads.Post goal.the-invariant-loop-at goal.the-decreases-loop-at tie.handed_clauses
 
 -- what is known of the text and of the line read
 abbrev text : AfterStartsWith → List ℕ
