@@ -10,142 +10,101 @@ use Rattle.call_compare.proofs.compare_by.Goals as goal
 
 pub returns-then-pair_count : goal.returns-then-pair_count
 returns-then-pair_count c =
-    let P = c.before.before in
-    let S = P.before.before.before.before.before.before.before.before.before in
-    let a = S.args in
+    let a = c.args in
     let l : GeneratorList = record { n = a.n1; signs = a.signs1.now; z = a.z1.now; x = a.x1.now } in
     let m : GeneratorList = record { n = a.n2; signs = a.signs2.now; z = a.z2.now; x = a.x2.now } in
-    refused-2 a.limited l m a.choice.now a.list.now a.count.now (sym P.pair_count.ensures
+    refused-2 a.limited l m a.choice.now a.list.now a.count.now (sym c.pair_count.ensures
     ∙ c.if-pair_count.true)
 
 pub returns-then-other_than : goal.returns-then-other_than
 returns-then-other_than c =
-    let O = c.before.before in
-    let P1 = O.before.before in
-    let P = P1.before in
-    let S = P.before.before.before.before.before.before.before.before.before in
-    let a = S.args in
+    let a = c.args in
     let l : GeneratorList = record { n = a.n1; signs = a.signs1.now; z = a.z1.now; x = a.x1.now } in
     let m : GeneratorList = record { n = a.n2; signs = a.signs2.now; z = a.z2.now; x = a.x2.now } in
-    refused-4 a.limited l m a.choice.now a.list.now a.count.now (sym P.pair_count.ensures
-    ∙ P1.if-pair_count.false) _
-    (ap₂ ◌||◌ O.other_than.ensures O.other_than-2.ensures) c.if-other_than.true
+    refused-4 a.limited l m a.choice.now a.list.now a.count.now (sym c.pair_count.ensures
+    ∙ c.if-pair_count.false) _
+    (ap₂ ◌||◌ c.other_than.ensures c.other_than-2.ensures) c.if-other_than.true
 
 pub slice_bounds-neighbours1-end : goal.slice_bounds-neighbours1-end
 slice_bounds-neighbours1-end c =
-    let P1 = c.before.before.before.before in
-    let P = P1.before in
-    let S = P.before.before.before.before.before.before.before.before.before in
-    let a = S.args in
+    let a = c.args in
     let l : GeneratorList = record { n = a.n1; signs = a.signs1.now; z = a.z1.now; x = a.x1.now } in
     let m : GeneratorList = record { n = a.n2; signs = a.signs2.now; z = a.z2.now; x = a.x2.now } in
-    at-most-64 l m (sym P.pair_count.ensures ∙ P1.if-pair_count.false)
+    at-most-64 l m (sym c.pair_count.ensures ∙ c.if-pair_count.false)
 
 pub slice_bounds-compare_lists-end : goal.slice_bounds-compare_lists-end
 slice_bounds-compare_lists-end c =
-    let P1 = c.before.before.before.before.before in
-    let P = P1.before in
-    let S = P.before.before.before.before.before.before.before.before.before in
-    let a = S.args in
+    let a = c.args in
     let l : GeneratorList = record { n = a.n1; signs = a.signs1.now; z = a.z1.now; x = a.x1.now } in
     let m : GeneratorList = record { n = a.n2; signs = a.signs2.now; z = a.z2.now; x = a.x2.now } in
-    sym (part-long _ _ (at-most-64 l m (sym P.pair_count.ensures ∙ P1.if-pair_count.false)) refl)
+    sym (part-long _ _ (at-most-64 l m (sym c.pair_count.ensures ∙ c.if-pair_count.false)) refl)
 
 pub slice_bounds-codes1-end : goal.slice_bounds-codes1-end
 slice_bounds-codes1-end c =
-    let P1 = c.before.before.before.before.before in
-    let P = P1.before in
-    let S = P.before.before.before.before.before.before.before.before.before in
-    let a = S.args in
+    let a = c.args in
     let l : GeneratorList = record { n = a.n1; signs = a.signs1.now; z = a.z1.now; x = a.x1.now } in
     let m : GeneratorList = record { n = a.n2; signs = a.signs2.now; z = a.z2.now; x = a.x2.now } in
-    at-most-64 l m (sym P.pair_count.ensures ∙ P1.if-pair_count.false)
+    at-most-64 l m (sym c.pair_count.ensures ∙ c.if-pair_count.false)
 
 pub slice_bounds-compare_lists-end-2 : goal.slice_bounds-compare_lists-end-2
 slice_bounds-compare_lists-end-2 c =
-    let P1 = c.before.before.before.before.before.before in
-    let P = P1.before in
-    let S = P.before.before.before.before.before.before.before.before.before in
-    let a = S.args in
+    let a = c.args in
     let l : GeneratorList = record { n = a.n1; signs = a.signs1.now; z = a.z1.now; x = a.x1.now } in
     let m : GeneratorList = record { n = a.n2; signs = a.signs2.now; z = a.z2.now; x = a.x2.now } in
-    sym (part-long _ _ (at-most-64 l m (sym P.pair_count.ensures ∙ P1.if-pair_count.false)) refl)
+    sym (part-long _ _ (at-most-64 l m (sym c.pair_count.ensures ∙ c.if-pair_count.false)) refl)
 
 pub slice_bounds-neighbours2-end : goal.slice_bounds-neighbours2-end
 slice_bounds-neighbours2-end c =
-    let P1 = c.before.before.before.before.before.before in
-    let P = P1.before in
-    let S = P.before.before.before.before.before.before.before.before.before in
-    let a = S.args in
+    let a = c.args in
     let l : GeneratorList = record { n = a.n1; signs = a.signs1.now; z = a.z1.now; x = a.x1.now } in
     let m : GeneratorList = record { n = a.n2; signs = a.signs2.now; z = a.z2.now; x = a.x2.now } in
-    at-most-64 l m (sym P.pair_count.ensures ∙ P1.if-pair_count.false)
+    at-most-64 l m (sym c.pair_count.ensures ∙ c.if-pair_count.false)
 
 pub slice_bounds-compare_lists-end-3 : goal.slice_bounds-compare_lists-end-3
 slice_bounds-compare_lists-end-3 c =
-    let P1 = c.before.before.before.before.before.before.before in
-    let P = P1.before in
-    let S = P.before.before.before.before.before.before.before.before.before in
-    let a = S.args in
+    let a = c.args in
     let l : GeneratorList = record { n = a.n1; signs = a.signs1.now; z = a.z1.now; x = a.x1.now } in
     let m : GeneratorList = record { n = a.n2; signs = a.signs2.now; z = a.z2.now; x = a.x2.now } in
-    sym (part-long _ _ (at-most-64 l m (sym P.pair_count.ensures ∙ P1.if-pair_count.false)) refl)
+    sym (part-long _ _ (at-most-64 l m (sym c.pair_count.ensures ∙ c.if-pair_count.false)) refl)
 
 pub slice_bounds-codes2-end : goal.slice_bounds-codes2-end
 slice_bounds-codes2-end c =
-    let P1 = c.before.before.before.before.before.before.before in
-    let P = P1.before in
-    let S = P.before.before.before.before.before.before.before.before.before in
-    let a = S.args in
+    let a = c.args in
     let l : GeneratorList = record { n = a.n1; signs = a.signs1.now; z = a.z1.now; x = a.x1.now } in
     let m : GeneratorList = record { n = a.n2; signs = a.signs2.now; z = a.z2.now; x = a.x2.now } in
-    at-most-64 l m (sym P.pair_count.ensures ∙ P1.if-pair_count.false)
+    at-most-64 l m (sym c.pair_count.ensures ∙ c.if-pair_count.false)
 
 pub slice_bounds-compare_lists-end-4 : goal.slice_bounds-compare_lists-end-4
 slice_bounds-compare_lists-end-4 c =
-    let P1 = c.before.before.before.before.before.before.before.before in
-    let P = P1.before in
-    let S = P.before.before.before.before.before.before.before.before.before in
-    let a = S.args in
+    let a = c.args in
     let l : GeneratorList = record { n = a.n1; signs = a.signs1.now; z = a.z1.now; x = a.x1.now } in
     let m : GeneratorList = record { n = a.n2; signs = a.signs2.now; z = a.z2.now; x = a.x2.now } in
-    sym (part-long _ _ (at-most-64 l m (sym P.pair_count.ensures ∙ P1.if-pair_count.false)) refl)
+    sym (part-long _ _ (at-most-64 l m (sym c.pair_count.ensures ∙ c.if-pair_count.false)) refl)
 
 pub compare_lists-requires : goal.compare_lists-requires
 compare_lists-requires c =
-    let P3 = c.before.before.before.before.before.before.before.before in
-    let O = P3.before in
-    let P1 = O.before.before in
-    let P = P1.before in
-    let S = P.before.before.before.before.before.before.before.before.before in
-    let a = S.args in
+    let a = c.args in
     let l : GeneratorList = record { n = a.n1; signs = a.signs1.now; z = a.z1.now; x = a.x1.now } in
     let m : GeneratorList = record { n = a.n2; signs = a.signs2.now; z = a.z2.now; x = a.x2.now } in
-    let few = at-most-64 l m (sym P.pair_count.ensures ∙ P1.if-pair_count.false) in record { le_n = (
-        at_least_one l m (sym P.pair_count.ensures
-            ∙ P1.if-pair_count.false),
+    let few = at-most-64 l m (sym c.pair_count.ensures ∙ c.if-pair_count.false) in record { le_n = (
+        at_least_one l m (sym c.pair_count.ensures
+            ∙ c.if-pair_count.false),
         few,
-        choice-fits a.limited l m a.choice.now a.list.now a.count.now (sym P.pair_count.ensures
-            ∙ P1.if-pair_count.false) _ (ap₂ ◌||◌ O.other_than.ensures O.other_than-2.ensures)
-            P3.if-other_than.false,
-        list-fits a.limited l m a.choice.now a.list.now a.count.now (sym P.pair_count.ensures
-            ∙ P1.if-pair_count.false) _ (ap₂ ◌||◌ O.other_than.ensures O.other_than-2.ensures)
-            P3.if-other_than.false,
+        choice-fits a.limited l m a.choice.now a.list.now a.count.now (sym c.pair_count.ensures
+            ∙ c.if-pair_count.false) _ (ap₂ ◌||◌ c.other_than.ensures c.other_than-2.ensures)
+            c.if-other_than.false,
+        list-fits a.limited l m a.choice.now a.list.now a.count.now (sym c.pair_count.ensures
+            ∙ c.if-pair_count.false) _ (ap₂ ◌||◌ c.other_than.ensures c.other_than-2.ensures)
+            c.if-other_than.false,
       ); neighbours1_len = (part-long _ _ few refl, part-long _ _ few refl, part-long _ _ few refl, part-long _ _ few refl) }
 
 pub returns : goal.returns
 returns c =
-    let Q = c.before.before.before.before.before.before.before.before.before in
-    let P3 = Q.before.before.before.before.before.before.before.before in
-    let O = P3.before in
-    let P1 = O.before.before in
-    let P = P1.before in
-    let S = P.before.before.before.before.before.before.before.before.before in
-    let a = S.args in
+    let a = c.args in
     let l : GeneratorList = record { n = a.n1; signs = a.signs1.now; z = a.z1.now; x = a.x1.now } in
     let m : GeneratorList = record { n = a.n2; signs = a.signs2.now; z = a.z2.now; x = a.x2.now } in
     same_count a.limited a.n1 a.n2
-    (counts-agree l m (sym P.pair_count.ensures
-    ∙ P1.if-pair_count.false))
+    (counts-agree l m (sym c.pair_count.ensures
+    ∙ c.if-pair_count.false))
     a.signs1.now a.z1.now a.x1.now a.signs2.now a.z2.now a.x2.now a.choice.now
-    a.list.now a.count.now _ _ _ _ Q.compare_lists.ensures
+    a.list.now a.count.now _ _ _ _ c.compare_lists.ensures

@@ -5,5 +5,4 @@ use Rattle.call_gates.proofs.found.Goals as goal
 
 pub returns-else-known : goal.returns-else-known
 returns-else-known c =
-    let S = c.before.before.before in
-    subst (λ b. Found b S.args.codes.now S.args.word) c.if-known.false S.requires.found
+    subst (λ b. Found b c.args.codes.now c.args.word) c.if-known.false c.requires.found

@@ -35,10 +35,9 @@ number : (E : AfterInPlaceNumberEarly)
     ≡ first_fitting (used_lines_of (lent E.before.before.before.before.before.before.before.before)
     (asked E.before.before.before.before.before.before.before.before))
 number E =
-    let I = E.before.before.before.before.before in
-    let S = I.before.before.before in
+    let S = E.before.before.before.before.before.before in
     named-as (lent S) (leb 24 S.args.code) (leb S.args.n S.args.qubit) E.in_place_number-early.ensures
-    I.bit_at.ensures
+    E.bit_at.ensures
 
 pub first_look-seen-requires : goal.first_look-seen-requires
 first_look-seen-requires c =
@@ -50,25 +49,18 @@ returns-then-early-ne0 c = refused _ (number c.before) c.if-early-ne0.true (refl
 
 pub found-touched-requires : goal.found-touched-requires
 found-touched-requires c =
-    let D = c.before in
-    let F = D.before.before.before.before in
-    let S = F.before.before.before.before.before in
+    let S = c.before.before.before.before.before.before.before in
     let ready = gate-ready (lent S).held S.args.qubit S.args.code
-    (as_before (lent S) (asked S) (number D.before) D.if1.false) in
-    (unrefused-codes _ _ ready.0, F.first-look.ensures.1)
+    (as_before (lent S) (asked S) (number c.before.before) c.if1.false) in record { codes_len_bound = unrefused-codes _ _ ready.0; found = c.first-look.ensures.1 }
 
 pub gate_record-requires : goal.gate_record-requires
 gate_record-requires c =
-    let W = c.before.before in
-    let D = W.before.before in
-    let S = D.before.before.before.before.before.before.before.before.before in
+    let S = c.before.before.before.before.before.before.before.before.before.before in
     let ready = gate-ready (lent S).held S.args.qubit S.args.code
-    (as_before (lent S) (asked S) (number D.before) D.if1.false) in record { unrefused = ready.0; q_in_bounds = ready.1; suspected = marked-words _ _ _ ready.0 W.found-touched.ensures }
+    (as_before (lent S) (asked S) (number c.before.before.before.before.before) c.if1.false) in record { unrefused = ready.0; q_in_bounds = ready.1; suspected = marked-words _ _ _ ready.0 c.found-touched.ensures }
 
 pub returns : goal.returns
 returns c =
-    let G = c.before.before.before.before.before in
-    let D = G.before.before.before.before.before in
-    let S = D.before.before.before.before.before.before.before.before.before in
-    in-place-done (lent S) (asked S) (number D.before) D.if1.false
-    G.gate_record.ensures.neighbours G.gate_record.ensures.numbers
+    let S = c.before.before.before.before.before.before.before.before.before.before.before.before.before.before.before.before in
+    in-place-done (lent S) (asked S) (number c.before.before.before.before.before.before.before.before.before.before.before) c.if1.false
+    c.gate_record.ensures.neighbours c.gate_record.ensures.numbers

@@ -18,30 +18,24 @@ lent S = used_record S.args.n S.args.neighbours.now S.args.codes.now S.args.used
 
 pub returns-then-early-ne0 : goal.returns-then-early-ne0
 returns-then-early-ne0 c =
-    let E = c.before.before in
-    let S = E.before.before.before in
-    record-refused (lent S) S.args.six E.known_number-early.ensures S.args.eight S.args.sixteen
+    let S = c.before.before.before.before.before in
+    record-refused (lent S) S.args.six c.known_number-early.ensures S.args.eight S.args.sixteen
     c.if-early-ne0.true
 
 pub returns-then-eight : goal.returns-then-eight
 returns-then-eight c =
-    let E = c.before.before.before in
-    let S = E.before.before.before in
-    then-8 (lent S) S.args.six E.known_number-early.ensures S.args.eight S.args.sixteen
+    let S = c.before.before.before.before.before.before in
+    then-8 (lent S) S.args.six c.known_number-early.ensures S.args.eight S.args.sixteen
     c.if-early-ne0.false c.if-eight.true
 
 pub returns-then-sixteen : goal.returns-then-sixteen
 returns-then-sixteen c =
-    let D = c.before.before in
-    let E = D.before.before in
-    let S = E.before.before.before in
-    then-16 (lent S) S.args.six E.known_number-early.ensures S.args.eight S.args.sixteen
-    D.if-early-ne0.false D.if-eight.false c.if-sixteen.true
+    let S = c.before.before.before.before.before.before.before in
+    then-16 (lent S) S.args.six c.known_number-early.ensures S.args.eight S.args.sixteen
+    c.if-early-ne0.false c.if-eight.false c.if-sixteen.true
 
 pub returns-else-sixteen : goal.returns-else-sixteen
 returns-else-sixteen c =
-    let D = c.before.before in
-    let E = D.before.before in
-    let S = E.before.before.before in
-    then-0 (lent S) S.args.six E.known_number-early.ensures S.args.eight S.args.sixteen
-    D.if-early-ne0.false D.if-eight.false c.if-sixteen.false
+    let S = c.before.before.before.before.before.before.before in
+    then-0 (lent S) S.args.six c.known_number-early.ensures S.args.eight S.args.sixteen
+    c.if-early-ne0.false c.if-eight.false c.if-sixteen.false

@@ -20,9 +20,8 @@ lent S = used_record S.args.n S.args.neighbours.now S.args.codes.now S.args.used
 
 pub returns-then-known : goal.returns-then-known
 returns-then-known c =
-    let branch = c.before.before in
-    let S = branch.before.before.before in
-    c.six_number.ensures ∙ six-alone (lent S) (known-true (lent S) S.requires.known branch.if-known.true) S.args.six
+    let S = c.before.before.before.before.before in
+    c.six_number.ensures ∙ six-alone (lent S) (known-true (lent S) S.requires.known c.if-known.true) S.args.six
 
 pub returns : goal.returns
 returns c =

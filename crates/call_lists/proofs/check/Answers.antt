@@ -9,42 +9,32 @@ use Rattle.call_lists.proofs.check.Goals as goal
 
 pub returns-then-early-ne0 : goal.returns-then-early-ne0
 returns-then-early-ne0 c =
-    let E = c.before.before in
-    let S = E.before.before.before.before in
-    let a = S.args in
+    let a = c.args in
     let l : GeneratorList = record { n = a.n; signs = a.signs.now; z = a.z.now; x = a.x.now } in
-    refused _ (refused-early l false _ E.early_refusal-early.ensures c.if-early-ne0.true) c.if-early-ne0.true tt
+    refused _ (refused-early l false _ c.early_refusal-early.ensures c.if-early-ne0.true) c.if-early-ne0.true tt
 
 pub independent-requires : goal.independent-requires
 independent-requires c =
-    let E = c.before.before in
-    let S = E.before.before.before.before in
-    let a = S.args in
+    let a = c.args in
     let l : GeneratorList = record { n = a.n; signs = a.signs.now; z = a.z.now; x = a.x.now } in
-    let R = reducible l false _ E.early_refusal-early.ensures c.if-early-ne0.false in record { n_bound = (R.upto, R.z-length, R.x-length); by_index = rows-within l false _ E.early_refusal-early.ensures c.if-early-ne0.false }
+    let R = reducible l false _ c.early_refusal-early.ensures c.if-early-ne0.false in record { n_bound = (R.upto, R.z-length, R.x-length); by_index = rows-within l false _ c.early_refusal-early.ensures c.if-early-ne0.false }
 
 pub returns-then-independent : goal.returns-then-independent
 returns-then-independent c =
-    let I = c.before.before in
-    let E = I.before.before in
-    let S = E.before.before.before.before in
-    let a = S.args in
+    let a = c.args in
     let l : GeneratorList = record { n = a.n; signs = a.signs.now; z = a.z.now; x = a.x.now } in
     record {
-      number = accepted-last l false _ E.early_refusal-early.ensures I.if-early-ne0.false _
-          (I.independent.ensures ∙ ap not (list-dependent l)) c.if-independent.true;
+      number = accepted-last l false _ c.early_refusal-early.ensures c.if-early-ne0.false _
+          (c.independent.ensures ∙ ap not (list-dependent l)) c.if-independent.true;
       held = tt;
     }
 
 pub returns-else-independent : goal.returns-else-independent
 returns-else-independent c =
-    let I = c.before.before in
-    let E = I.before.before in
-    let S = E.before.before.before.before in
-    let a = S.args in
+    let a = c.args in
     let l : GeneratorList = record { n = a.n; signs = a.signs.now; z = a.z.now; x = a.x.now } in
     record {
-      number = refused-last l false _ E.early_refusal-early.ensures I.if-early-ne0.false _
-          (I.independent.ensures ∙ ap not (list-dependent l)) c.if-independent.false;
+      number = refused-last l false _ c.early_refusal-early.ensures c.if-early-ne0.false _
+          (c.independent.ensures ∙ ap not (list-dependent l)) c.if-independent.false;
       held = tt;
     }

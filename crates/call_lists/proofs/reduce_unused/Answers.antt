@@ -16,12 +16,10 @@ lent S = record { n = S.args.n; signs = S.args.signs.now; z = S.args.z.now; x = 
 
 pub returns-then-number-ne0 : goal.returns-then-number-ne0
 returns-then-number-ne0 c =
-    let E = c.before.before.before.before.before.before in
-    let S = E.before.before.before.before.before.before.before.before in
-    unused-refused (lent S) _ _ _ E.reduce-number.ensures c.if-number-ne0.true
+    let S = c.before.before.before.before.before.before.before.before.before.before.before.before.before.before in
+    unused-refused (lent S) _ _ _ c.reduce-number.ensures c.if-number-ne0.true
 
 pub returns : goal.returns
 returns c =
-    let E = c.before.before.before.before.before.before in
-    let S = E.before.before.before.before.before.before.before.before in
-    unused-done (lent S) _ _ S.args.used.now E.reduce-number.ensures c.if-number-ne0.false
+    let S = c.before.before.before.before.before.before.before.before.before.before.before.before.before.before in
+    unused-done (lent S) _ _ S.args.used.now c.reduce-number.ensures c.if-number-ne0.false

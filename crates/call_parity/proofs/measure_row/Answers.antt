@@ -62,20 +62,14 @@ measure_row_record-measured-requires c =
     let S = at D.before.before in
     let a = S.args in
     let F = ready D in
-    let long = F.held.neighbours-length in (
-      accepted-unrefused a.n a.neighbours.now a.codes.now F.held,
-      (subst (λ m. a.z < 2 ^ m) (sym long) F.z-below, subst (λ m. a.x < 2 ^ m) (sym long) F.x_below),
-    )
+    let long = F.held.neighbours-length in record { unrefused = accepted-unrefused a.n a.neighbours.now a.codes.now F.held; z_bound = (subst (λ m. a.z < 2 ^ m) (sym long) F.z-below, subst (λ m. a.x < 2 ^ m) (sym long) F.x_below) }
 
 pub returns : goal.returns
 returns c =
-    let O = c.before.before in
-    let M = O.before.before.before.before.before in
-    let D = M.before.before.before in
-    let E = D.before.before in
+    let E = c.before.before.before.before.before.before.before.before.before.before.before.before in
     let S = at E in
     let a = S.args in
-    row_done (lent S) a.z a.x a.bit E.used_refusal-early.ensures D.if-early-ne0.false
-    (ap not (eq-eqb (bit_and a.used (bit_or a.z a.x)) 0 D.if-used-row-ne0.false)) a.answer.now a.determined.now _
+    row_done (lent S) a.z a.x a.bit E.used_refusal-early.ensures c.if-early-ne0.false
+    (ap not (eq-eqb (bit_and a.used (bit_or a.z a.x)) 0 c.if-used-row-ne0.false)) a.answer.now a.determined.now _
     _ _
-    M.measure_row_record-measured.ensures _ _ O.outcome_number.ensures c.determined_number.ensures
+    c.measure_row_record-measured.ensures _ _ c.outcome_number.ensures c.determined_number.ensures

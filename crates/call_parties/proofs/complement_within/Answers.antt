@@ -22,48 +22,36 @@ abbrev asked : Start → Operation
 asked S = complement_of S.args.a
 
 pub take_party-own_used-requires : goal.take_party-own_used-requires
-take_party-own_used-requires c =
-    let S = c.before.before.before.before.before.before.before.before in
-    (lent-64 S.args.word S.args.party (lent S) (asked S) S.requires.admitted, S.requires.words_len)
+take_party-own_used-requires c = let S = c.before.before.before.before.before.before.before.before in record { neighbours_len = lent-64 S.args.word S.args.party (lent S) (asked S) S.requires.admitted; words_len = S.requires.words_len }
 
 pub complement_known-number-requires : goal.complement_known-number-requires
 complement_known-number-requires c =
-    let T = c.before.before.before.before.before.before in
-    let S = T.before.before.before.before.before.before.before.before.before in
+    let S = c.before.before.before.before.before.before.before.before.before.before.before.before.before.before in
     let a = S.args in
     copy-unrefused a.word a.party (lent S) (asked S) S.requires.admitted
-    (copied-whole a.word a.party (lent S) (asked S) S.requires.admitted _ _ _ T.take_party-own_used.ensures)
+    (copied-whole a.word a.party (lent S) (asked S) S.requires.admitted _ _ _ c.take_party-own_used.ensures)
 
 pub returns-then-number-ne0 : goal.returns-then-number-ne0
 returns-then-number-ne0 c =
-    let G = c.before.before.before.before.before.before in
-    let T = G.before.before.before.before.before.before.before in
-    let S = T.before.before.before.before.before.before.before.before.before in
+    let S = c.before.before.before.before.before.before.before.before.before.before.before.before.before.before.before.before.before.before.before.before.before in
     let a = S.args in
     party-refused a.word a.party (lent S) (asked S) S.requires.admitted
-    (copied-whole a.word a.party (lent S) (asked S) S.requires.admitted _ _ _ T.take_party-own_used.ensures)
-    (complement-op _) G.complement_known-number.ensures c.if-number-ne0.true
+    (copied-whole a.word a.party (lent S) (asked S) S.requires.admitted _ _ _ c.take_party-own_used.ensures)
+    (complement-op _) c.complement_known-number.ensures c.if-number-ne0.true
 
 pub put_party-requires : goal.put_party-requires
 put_party-requires c =
-    let E = c.before.before.before.before in
-    let G = E.before.before.before.before.before in
-    let T = G.before.before.before.before.before.before.before in
-    let S = T.before.before.before.before.before.before.before.before.before in
+    let S = c.before.before.before.before.before.before.before.before.before.before.before.before.before.before.before.before.before.before.before.before.before.before in
     let L = lent-64 S.args.word S.args.party (lent S) (asked S) S.requires.admitted in record { words_len = (
-        E.words2.given
-            ∙ G.words.given ∙ S.requires.words_len.0,
-        E.bytes2.given ∙ G.bytes.given ∙ S.requires.words_len.1,
+        c.words2.given
+            ∙ c.words.given ∙ S.requires.words_len.0,
+        c.bytes2.given ∙ c.bytes.given ∙ S.requires.words_len.1,
       ); neighbours_len = L }
 
 pub returns : goal.returns
 returns c =
-    let P = c.before.before.before.before.before in
-    let E = P.before.before.before.before.before in
-    let G = E.before.before.before.before.before in
-    let T = G.before.before.before.before.before.before.before in
-    let S = T.before.before.before.before.before.before.before.before.before in
+    let S = c.before.before.before.before.before.before.before.before.before.before.before.before.before.before.before.before.before.before.before.before.before.before.before.before.before.before.before.before in
     let a = S.args in
     party-done a.word a.party (lent S) (asked S) S.requires.admitted
-    (copied-whole a.word a.party (lent S) (asked S) S.requires.admitted _ _ _ T.take-party.ensures)
-    (complement-op _) G.complement-known.ensures E.if1.false P.put_party.ensures
+    (copied-whole a.word a.party (lent S) (asked S) S.requires.admitted _ _ _ c.take-party.ensures)
+    (complement-op _) c.complement-known.ensures c.if1.false c.put_party.ensures

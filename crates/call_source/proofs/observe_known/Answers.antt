@@ -30,10 +30,9 @@ lent S = used_record S.args.n S.args.neighbours.now S.args.codes.now S.args.used
 before : (D : ElseEarlyNe0) → let S = D.before.before.before.before.before.before.before in
     first_fitting (argument_lines (lent S).held S.args.pauli S.args.qubit S.args.bit) ≡ 0
 before D =
-    let E = D.before in
-    let S = E.before.before.before.before.before.before in
+    let S = D.before.before.before.before.before.before in
     let a = S.args in
-    arguments-before (lent S) a.pauli a.qubit a.bit (sym E.argument_refusal-early.ensures ∙ D.if-early-ne0.false)
+    arguments-before (lent S) a.pauli a.qubit a.bit (sym D.argument_refusal-early.ensures ∙ D.if-early-ne0.false)
 
 pub returns-then-early-ne0 : goal.returns-then-early-ne0
 returns-then-early-ne0 c = refused _ c.argument_refusal-early.ensures c.if-early-ne0.true (refl, (refl, (refl, (refl, (refl, tt)))))
@@ -42,14 +41,12 @@ pub measure_record-measured-requires : goal.measure_record-measured-requires
 measure_record-measured-requires c =
     let D = c.before.before.before in
     let S = D.before.before.before.before.before.before.before in
-    let a = S.args in
-    measure-ready (lent S).held a.pauli a.qubit a.bit
-    (before D)
+    let a = S.args in let whole = measure-ready (lent S).held a.pauli a.qubit a.bit
+    (before D) in record { unrefused = whole.0; le_pauli = whole.1 }
 
 pub single-requires : goal.single-requires
 single-requires c =
-    let G = c.before.before.before.before.before.before.before in
-    let D = G.before.before.before in
+    let D = c.before.before.before.before.before.before.before.before.before.before in
     let S = D.before.before.before.before.before.before.before in
     let a = S.args in
     omega (
@@ -61,13 +58,8 @@ single-requires c =
 
 pub returns : goal.returns
 returns c =
-    let M = c.before.before in
-    let N = M.before in
-    let G = N.before.before.before.before.before in
-    let D = G.before.before.before in
-    let E = D.before in
-    let S = E.before.before.before.before.before.before in
+    let S = c.before.before.before.before.before.before.before.before.before.before.before.before.before.before.before.before.before in
     let a = S.args in
     observe-done (lent S) a.pauli a.qubit a.bit a.answer.now a.determined.now
-    E.argument_refusal-early.ensures D.if-early-ne0.false _ _ _ G.measure_record-measured.ensures _ _ _
-    (ap (bit_or a.used.now) c.single.ensures) N.outcome_number.ensures M.determined_number.ensures
+    c.argument_refusal-early.ensures c.if-early-ne0.false _ _ _ c.measure_record-measured.ensures _ _ _
+    (ap (bit_or a.used.now) c.single.ensures) c.outcome_number.ensures c.determined_number.ensures

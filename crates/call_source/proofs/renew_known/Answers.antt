@@ -50,11 +50,10 @@ within D = let a = (at D.before.before).args in lt-leb a.n a.qubit D.if-n-qubit.
 passes : (D : ElseNotBitAt) → let S = at D.before.before.before.before in
     0 ≡ first_fitting (renew_lines (lent S) S.args.qubit S.args.code)
 passes D =
-    let U = D.before in
-    let E = U.before.before.before in
+    let E = D.before.before.before.before in
     let S = at E in
-    renew-0 (lent S) S.args.qubit S.args.code (number E) U.if-early-ne0.false (within U.before)
-    (ap not (sym U.bit_at.ensures) ∙ D.if-not-bit_at.false-raw)
+    renew-0 (lent S) S.args.qubit S.args.code (number E) D.if-early-ne0.false (within D.before.before)
+    (ap not (sym D.bit_at.ensures) ∙ D.if-not-bit_at.false-raw)
 
 pub returns-then-early-ne0 : goal.returns-then-early-ne0
 returns-then-early-ne0 c =
@@ -72,11 +71,10 @@ returns-then-n-qubit c =
 
 pub returns-then-not-bit_at : goal.returns-then-not-bit_at
 returns-then-not-bit_at c =
-    let U = c.before in
-    let E = U.before.before.before in
+    let E = c.before.before.before.before in
     let S = at E in
-    refused _ (renew-20 (lent S) S.args.qubit S.args.code (number E) U.if-early-ne0.false
-    (within U.before) (ap not (sym U.bit_at.ensures) ∙ c.if-not-bit_at.true-raw)) (λ z. absurd (omega (arith, z)))
+    refused _ (renew-20 (lent S) S.args.qubit S.args.code (number E) c.if-early-ne0.false
+    (within c.before.before) (ap not (sym c.bit_at.ensures) ∙ c.if-not-bit_at.true-raw)) (λ z. absurd (omega (arith, z)))
     (refl, (refl, (refl, tt)))
 
 pub bounds-codes-qubit : goal.bounds-codes-qubit

@@ -39,32 +39,24 @@ returns-then-early-ne0 c =
 
 pub returns-then-place-ge8 : goal.returns-then-place-ge8
 returns-then-place-ge8 c =
-    let P = c.before.before in
-    let R = P.before.before in
+    let R = c.before.before.before.before in
     let S = R.before.before.before.before.before.before.before.before in
-    return-not-held _ (store S) _ S.args.neighbours.now S.args.codes.now _ _ (early R) P.if-early-ne0.false
+    return-not-held _ (store S) _ S.args.neighbours.now S.args.codes.now _ _ (early R) c.if-early-ne0.false
     _
-    P.find-place.ensures c.if-place-ge8.true
+    c.find-place.ensures c.if-place-ge8.true
 
 pub take_record-requires : goal.take_record-requires
 take_record-requires c =
-    let N = c.before.before.before in
-    let L = N.before in
-    let P = L.before in
-    let R = P.before.before in
+    let R = c.before.before.before.before.before.before.before in
     let S = R.before.before.before.before.before.before.before.before in let whole = take-fits S.args.name (store S) S.args.n.now S.args.neighbours.now S.args.codes.now
     S.args.used.now
-    _ (early R) P.if-early-ne0.false _ P.find-place.ensures L.if-place-ge8.false _ N.word_at-count.ensures in record { i_bound = whole.0; n_in_bounds = whole.1 }
+    _ (early R) c.if-early-ne0.false _ c.find-place.ensures c.if-place-ge8.false _ c.word_at-count.ensures in record { i_bound = whole.0; n_in_bounds = whole.1 }
 
 pub returns : goal.returns
 returns c =
-    let W = c.before.before.before.before.before.before in
-    let N = W.before.before.before in
-    let L = N.before in
-    let P = L.before in
-    let R = P.before.before in
+    let R = c.before.before.before.before.before.before.before.before.before.before.before.before.before in
     let S = R.before.before.before.before.before.before.before.before in
-    return-done _ (store S) _ S.args.neighbours.now S.args.codes.now _ _ (early R) P.if-early-ne0.false _
-    P.find-place.ensures L.if-place-ge8.false _ N.word_at-count.ensures _ _ _ W.take_record.ensures.0
-    W.take_record.ensures.1
+    return-done _ (store S) _ S.args.neighbours.now S.args.codes.now _ _ (early R) c.if-early-ne0.false _
+    c.find-place.ensures c.if-place-ge8.false _ c.word_at-count.ensures _ _ _ c.take_record.ensures.0
+    c.take_record.ensures.1
     c.word_at.ensures

@@ -23,50 +23,31 @@ store S = record { heads = S.args.heads.now; neighbours = S.args.held_neighbours
 
 pub returns-then-early-ne0 : goal.returns-then-early-ne0
 returns-then-early-ne0 c =
-    let R = c.before.before in
-    let S = R.before.before.before.before.before.before.before.before.before in
-    save-refused (lent S) (store S) _ _ R.save_refusal-early.ensures c.if-early-ne0.true
+    let S = c.before.before.before.before.before.before.before.before.before in
+    save-refused (lent S) (store S) _ _ c.save_refusal-early.ensures c.if-early-ne0.true
 
 pub returns-then-place-ge8 : goal.returns-then-place-ge8
 returns-then-place-ge8 c =
-    let P = c.before.before in
-    let E = P.before.before in
-    let R = E.before in
-    let S = R.before.before.before.before.before.before.before.before.before in
-    save-full (lent S) (store S) _ _ R.save-refusal.ensures E.if1.false _ P.place_for-place.ensures c.if-place-ge8.true
+    let S = c.before.before.before.before.before.before.before.before.before.before.before in
+    save-full (lent S) (store S) _ _ c.save-refusal.ensures c.if1.false _ c.place_for-place.ensures c.if-place-ge8.true
 
 pub put_head-requires : goal.put_head-requires
 put_head-requires c =
-    let L = c.before.before in
-    let P = L.before in
-    let E = P.before.before in
-    let R = E.before in
-    let S = R.before.before.before.before.before.before.before.before.before in
-    head-fits (lent S) (store S) _ _ R.save-refusal.ensures E.if1.false _ P.place_for-place.ensures L.if-place-ge8.false
+    let S = c.before.before.before.before.before.before.before.before.before.before.before.before in
+    head-fits (lent S) (store S) _ _ c.save-refusal.ensures c.if1.false _ c.place_for-place.ensures c.if-place-ge8.false
 
 pub put_record-requires : goal.put_record-requires
 put_record-requires c =
-    let H = c.before.before.before.before.before in
-    let L = H.before.before in
-    let P = L.before in
-    let E = P.before.before in
-    let R = E.before in
-    let S = R.before.before.before.before.before.before.before.before.before in let whole = record-fits (lent S) (store S) _ _ R.save-refusal.ensures E.if1.false _ P.place_for-place.ensures
-    L.if-place-ge8.false in record { i_bound = whole.0; neighbours_in_bounds = whole.1 }
+    let S = c.before.before.before.before.before.before.before.before.before.before.before.before.before.before.before.before.before in let whole = record-fits (lent S) (store S) _ _ c.save-refusal.ensures c.if1.false _ c.place_for-place.ensures
+    c.if-place-ge8.false in record { i_bound = whole.0; neighbours_in_bounds = whole.1 }
 
 pub returns : goal.returns
 returns c =
-    let W = c.before.before.before.before.before in
-    let H = W.before.before.before.before.before in
-    let L = H.before.before in
-    let P = L.before in
-    let E = P.before.before in
-    let R = E.before in
-    let S = R.before.before.before.before.before.before.before.before.before in
+    let S = c.before.before.before.before.before.before.before.before.before.before.before.before.before.before.before.before.before.before.before.before.before.before in
     let a = S.args in
-    save-done (lent S) (store S) _ _ R.save-refusal.ensures E.if1.false _ P.place_for-place.ensures L.if-place-ge8.false
+    save-done (lent S) (store S) _ _ c.save-refusal.ensures c.if1.false _ c.place_for-place.ensures c.if-place-ge8.false
     _ _ _
-    (H.put_head.ensures ∙ ap (λ q. headed q a.n a.name a.used a.heads.now) P.place_for-place.ensures)
-    (W.put_record.ensures.0 ∙ ap (λ q. placed_at q a.neighbours.now a.held_neighbours.now)
-    P.place_for-place.ensures)
-    (W.put_record.ensures.1 ∙ ap (λ q. placed_at q a.codes.now a.held_codes.now) P.place_for-place.ensures)
+    (c.put_head.ensures ∙ ap (λ q. headed q a.n a.name a.used a.heads.now) c.place_for-place.ensures)
+    (c.put_record.ensures.0 ∙ ap (λ q. placed_at q a.neighbours.now a.held_neighbours.now)
+    c.place_for-place.ensures)
+    (c.put_record.ensures.1 ∙ ap (λ q. placed_at q a.codes.now a.held_codes.now) c.place_for-place.ensures)

@@ -5,11 +5,8 @@ use Rattle.call_store.proofs.save_refusal.Goals as goal
 
 pub returns : goal.returns
 returns c =
-    let T = c.before.before in
-    let U = T.before in
-    let S = U.before.before.before.before.before.before in
-    save-number (used_record S.args.n S.args.neighbours.now S.args.codes.now S.args.used) (record {
-      heads = S.args.heads.now;
-      neighbours = S.args.held_neighbours.now;
-      codes = S.args.held_codes.now;
-    }) _ _ _ U.used_refusal-own.ensures T.store_refusal-others.ensures c.earlier.ensures
+    save-number (used_record c.args.n c.args.neighbours.now c.args.codes.now c.args.used) (record {
+      heads = c.args.heads.now;
+      neighbours = c.args.held_neighbours.now;
+      codes = c.args.held_codes.now;
+    }) _ _ _ c.used_refusal-own.ensures c.store_refusal-others.ensures c.earlier.ensures

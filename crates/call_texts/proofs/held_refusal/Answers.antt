@@ -29,28 +29,20 @@ lent S =
 
 pub returns-then-bad_count : goal.returns-then-bad_count
 returns-then-bad_count c =
-    let B = c.before.before in
-    let S = B.before.before.before in
-    two (lent S) S.args.others (sym B.bad_count.ensures ∙ c.if-bad_count.true)
+    let S = c.before.before.before.before.before in
+    two (lent S) S.args.others (sym c.bad_count.ensures ∙ c.if-bad_count.true)
 
 pub slice_bounds-used_refusal-end : goal.slice_bounds-used_refusal-end
 slice_bounds-used_refusal-end c =
-    let D = c.before.before in
-    let B = D.before in
-    let S = B.before.before.before in
-    sym (part-long S.args.n S.args.neighbours.now
-    (counted S.args.n (sym B.bad-count.ensures ∙ D.if1.false)).1 S.requires.0)
+    sym (part-long c.args.n c.args.neighbours.now
+    (counted c.args.n (sym c.bad-count.ensures ∙ c.if1.false)).1 c.requires.0)
 
 pub slice_bounds-used_refusal-end-2 : goal.slice_bounds-used_refusal-end-2
 slice_bounds-used_refusal-end-2 c =
-    let D = c.before.before.before in
-    let B = D.before in
-    let S = B.before.before.before in
-    sym (part-long S.args.n S.args.codes.now
-    (counted S.args.n (sym B.bad-count.ensures ∙ D.if1.false)).1 S.requires.1)
+    sym (part-long c.args.n c.args.codes.now
+    (counted c.args.n (sym c.bad-count.ensures ∙ c.if1.false)).1 c.requires.1)
 
 pub returns : goal.returns
 returns c =
-    let D = c.before.before.before.before in
-    let S = D.before.before.before.before in
+    let S = c.before.before.before.before.before.before.before in
     no-further (lent S) _ _ c.used_refusal.ensures

@@ -40,33 +40,27 @@ returns-then-not-form c =
 
 pub returns-then-number-ne0 : goal.returns-then-number-ne0
 returns-then-number-ne0 c =
-    let H = c.before.before in
-    let O = H.before.before.before in
-    let D = O.before.before.before.before in
-    let R = D.before in
+    let O = c.before.before.before.before.before in
+    
+    let R = O.before.before.before.before.before in
     let a = (at R).args in
     read-refused a.text.now a.n.now a.neighbours.now a.codes.now a.used.now R.read_text-read.result
-    R.read_text-read.ensures (not-false _ D.if-not-form.false-raw) _ (others-are O) _ H.held_refusal-number.ensures c.if-number-ne0.true
+    R.read_text-read.ensures (not-false _ O.if-not-form.false-raw) _ (others-are O) _ c.held_refusal-number.ensures c.if-number-ne0.true
 
 pub take_record-requires : goal.take_record-requires
 take_record-requires c =
-    let E = c.before.before.before.before.before in
-    let H = E.before in
-    let O = H.before.before.before in
-    let D = O.before.before.before.before in
-    let R = D.before in
+    let O = c.before.before.before.before.before.before.before.before.before in
+    
+    let R = O.before.before.before.before.before in
     let a = (at R).args in let whole = read-room a.text.now a.n.now a.neighbours.now a.codes.now a.used.now R.read_text-read.result
-    R.read_text-read.ensures (not-false _ D.if-not-form.false-raw) _ (others-are O) _ H.held_refusal-number.ensures E.if-number-ne0.false in record { i_bound = whole.0; n_in_bounds = whole.1 }
+    R.read_text-read.ensures (not-false _ O.if-not-form.false-raw) _ (others-are O) _ c.held_refusal-number.ensures c.if-number-ne0.false in record { i_bound = whole.0; n_in_bounds = whole.1 }
 
 pub returns : goal.returns
 returns c =
-    let T = c.before.before.before.before.before in
-    let E = T.before.before.before.before.before in
-    let H = E.before in
-    let O = H.before.before.before in
-    let D = O.before.before.before.before in
-    let R = D.before in
+    let O = c.before.before.before.before.before.before.before.before.before.before.before.before.before.before in
+    
+    let R = O.before.before.before.before.before in
     let a = (at R).args in
     read_done a.text.now a.n.now a.neighbours.now a.codes.now a.used.now R.read_text-read.result
-    R.read_text-read.ensures (not-false _ D.if-not-form.false-raw) _ (others-are O) _ H.held_refusal-number.ensures E.if-number-ne0.false
-    T.take_record.ensures.0 T.take_record.ensures.1
+    R.read_text-read.ensures (not-false _ O.if-not-form.false-raw) _ (others-are O) _ c.held_refusal-number.ensures c.if-number-ne0.false
+    c.take_record.ensures.0 c.take_record.ensures.1

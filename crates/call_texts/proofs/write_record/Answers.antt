@@ -29,17 +29,14 @@ returns-then-early-ne0 c =
 
 pub print_record-end-requires : goal.print_record-end-requires
 print_record-end-requires c =
-    let D = c.before.before in
-    let E = D.before in
+    let E = c.before.before.before in
     let a = (at E).args in
     write-room (lent (at E)) a.text.now a.size.now _ E.other_than-others.ensures _
-    E.used_refusal-early.ensures D.if-early-ne0.false
+    E.used_refusal-early.ensures c.if-early-ne0.false
 
 pub returns : goal.returns
 returns c =
-    let P = c.before.before.before in
-    let D = P.before.before in
-    let E = D.before in
+    let E = c.before.before.before.before.before.before in
     let a = (at E).args in
     write_done (lent (at E)) a.text.now a.size.now _ E.other_than-others.ensures _
-    E.used_refusal-early.ensures D.if-early-ne0.false P.print_record-end.ensures
+    E.used_refusal-early.ensures c.if-early-ne0.false c.print_record-end.ensures

@@ -16,9 +16,8 @@ use Rattle.comparison_parts.proofs.compare_parts.Goals as goal
 -- src/lib.rt:132:5
 pub loop-rest-init : goal.loop-rest-init
 loop-rest-init c =
-    let S = c.before.before.before.before.before.before in
-    let a = S.args in (
-      progress_start a.n a.neighbours.now a.codes.now a.neighbours2.now a.codes2.now S.requires.1 _
+    let a = c.args in (
+      progress_start a.n a.neighbours.now a.codes.now a.neighbours2.now a.codes2.now c.requires.1 _
           c.mask-rest.ensures (replicate 64 0) (zeros-codes 64),
       empty-rows,
     )
@@ -27,90 +26,62 @@ loop-rest-init c =
 -- src/lib.rt:134:13
 pub part-component-requires : goal.part-component-requires
 part-component-requires c =
-    let L = c.before.before.before in
-    let S = L.before.before.before.before.before.before in
-    let a = S.args in
-    let F = S.requires.1.first in (
-      (
-        omega (arith, F.neighbours-long, S.requires.1.upto),
-        vertex-in-buffer a.n a.neighbours.now a.codes.now a.neighbours2.now a.codes2.now S.requires.1
-            L.loop-rest.rest L.loop-rest.choice L.loop-rest.invariant.0
+    let a = c.args in
+    let F = c.requires.1.first in record { neighbours_len_bound = (
+        omega (arith, F.neighbours-long, c.requires.1.upto),
+        vertex-in-buffer a.n a.neighbours.now a.codes.now a.neighbours2.now a.codes2.now c.requires.1
+            c.loop-rest.rest c.loop-rest.choice c.loop-rest.invariant.0
             c.loop-rest-test.true _ c.smallest-q.ensures.0,
-      ),
-      subst (λ m. Simple m (graph_in a.neighbours.now)) (sym F.neighbours-long) F.simple,
-    )
+      ); simple = subst (λ m. Simple m (graph_in a.neighbours.now)) (sym F.neighbours-long) F.simple }
 
 -- src/lib.rt:135:13
 pub compare_component-whole-requires : goal.compare_component-whole-requires
 compare_component-whole-requires c =
-    let P = c.before.before in
-    let Q = P.before in
-    let L = Q.before.before in
-    let S = L.before.before.before.before.before.before in
-    let a = S.args in (
-      S.requires.1,
-      (
-        next-component a.n a.neighbours.now a.codes.now a.neighbours2.now a.codes2.now S.requires.1
-            L.loop-rest.rest L.loop-rest.choice L.loop-rest.invariant.0
-            Q.loop-rest-test.true _ Q.smallest-q.ensures.0 _ P.part-component.ensures,
-        L.loop-rest.invariant.1,
-      ),
-    )
+    let a = c.args in record { sound_pair = c.requires.1; component = (
+        next-component a.n a.neighbours.now a.codes.now a.neighbours2.now a.codes2.now c.requires.1
+            c.loop-rest.rest c.loop-rest.choice c.loop-rest.invariant.0
+            c.loop-rest-test.true _ c.smallest-q.ensures.0 _ c.part-component.ensures,
+        c.loop-rest.invariant.1,
+      ) }
 
 -- src/lib.rt:138:13
 pub returns-then-not-whole : goal.returns-then-not-whole
 returns-then-not-whole c =
-    let I = c.before.before.before.before in
-    let P = I.before.before in
-    let Q = P.before in
-    let L = Q.before.before in
-    let S = L.before.before.before.before.before.before in
-    let a = S.args in
-    none-answer a.n a.neighbours.now a.codes.now a.neighbours2.now a.codes2.now S.requires.1
-    L.loop-rest.rest L.loop-rest.choice L.loop-rest.invariant.0
-    Q.loop-rest-test.true _ Q.smallest-q.ensures.0 _ P.part-component.ensures _
+    let a = c.args in
+    none-answer a.n a.neighbours.now a.codes.now a.neighbours2.now a.codes2.now c.requires.1
+    c.loop-rest.rest c.loop-rest.choice c.loop-rest.invariant.0
+    c.loop-rest-test.true _ c.smallest-q.ensures.0 _ c.part-component.ensures _
     (subst (λ f. ComponentAnswer a.n (record_held a.n a.neighbours.now a.codes.now)
-    (record_held a.n a.neighbours2.now a.codes2.now) P.part-component.result L.loop-rest.choice f
-    I.compare_component-whole.result.choice) (not-true _ c.if-not-whole.true)
-    I.compare_component-whole.ensures.component_answer)
+    (record_held a.n a.neighbours2.now a.codes2.now) c.part-component.result c.loop-rest.choice f
+    c.compare_component-whole.result.choice) (not-true _ c.if-not-whole.true)
+    c.compare_component-whole.ensures.component_answer)
 
 -- src/lib.rt:132:5
 pub loop-rest-smaller : goal.loop-rest-smaller
 loop-rest-smaller c =
-    let I = c.before.before.before.before in
-    let P = I.before.before in
-    let Q = P.before in
-    let L = Q.before.before in
-    let S = L.before.before.before.before.before.before in
-    let a = S.args in
-    rest-falls a.n a.neighbours.now a.codes.now a.neighbours2.now a.codes2.now S.requires.1
-    L.loop-rest.rest L.loop-rest.choice L.loop-rest.invariant.0
-    Q.loop-rest-test.true _ Q.smallest-q.ensures.0 _ P.part-component.ensures
+    let a = c.args in
+    rest-falls a.n a.neighbours.now a.codes.now a.neighbours2.now a.codes2.now c.requires.1
+    c.loop-rest.rest c.loop-rest.choice c.loop-rest.invariant.0
+    c.loop-rest-test.true _ c.smallest-q.ensures.0 _ c.part-component.ensures
 
 -- src/lib.rt:132:5
 pub loop-rest-preserved : goal.loop-rest-preserved
 loop-rest-preserved c =
-    let I = c.before.before.before.before in
-    let P = I.before.before in
-    let Q = P.before in
-    let L = Q.before.before in
-    let S = L.before.before.before.before.before.before in
-    let a = S.args in (
-      progress_step a.n a.neighbours.now a.codes.now a.neighbours2.now a.codes2.now S.requires.1
-          L.loop-rest.rest L.loop-rest.choice L.loop-rest.invariant.0
-          Q.loop-rest-test.true _ Q.smallest-q.ensures.0 _ P.part-component.ensures _
+    let a = c.args in (
+      progress_step a.n a.neighbours.now a.codes.now a.neighbours2.now a.codes2.now c.requires.1
+          c.loop-rest.rest c.loop-rest.choice c.loop-rest.invariant.0
+          c.loop-rest-test.true _ c.smallest-q.ensures.0 _ c.part-component.ensures _
           (subst (λ f. ComponentAnswer a.n (record_held a.n a.neighbours.now a.codes.now)
-          (record_held a.n a.neighbours2.now a.codes2.now) P.part-component.result L.loop-rest.choice f
-          I.compare_component-whole.result.choice) (not-false _ c.if-not-whole.false)
-          I.compare_component-whole.ensures.component_answer),
-      I.compare_component-whole.ensures.empty_from,
+          (record_held a.n a.neighbours2.now a.codes2.now) c.part-component.result c.loop-rest.choice f
+          c.compare_component-whole.result.choice) (not-false _ c.if-not-whole.false)
+          c.compare_component-whole.ensures.component_answer),
+      c.compare_component-whole.ensures.empty_from,
     )
 
 -- src/lib.rt:118:1
 pub returns : goal.returns
 returns c =
-    let S = c.before.before.before.before.before.before.before.before in
-    let a = S.args in
-    all-answer a.n a.neighbours.now a.codes.now a.neighbours2.now a.codes2.now S.requires.1
+    let a = c.args in
+    all-answer a.n a.neighbours.now a.codes.now a.neighbours2.now a.codes2.now c.requires.1
     c.loop-rest.rest c.loop-rest.choice c.loop-rest.invariant.0
     c.loop-rest-test.false

@@ -18,53 +18,46 @@ use Rattle.comparison_search.proofs.least_choice.Goals as goal
 
 pub least_classes-answer-requires : goal.least_classes-answer-requires
 least_classes-answer-requires c =
-    let s = c.before.before.before in
-    let a = s.args in
+    let a = c.args in
     let T = c.class-table in (
-      s.requires.setting.few,
+      c.requires.setting.few,
       T.ensures.triangular,
-      classes-extend a.n (generators_in a.first.now) (generators_in a.second.now) a.frame s.requires.setting
+      classes-extend a.n (generators_in a.first.now) (generators_in a.second.now) a.frame c.requires.setting
           (equations_in T.new.0) T.ensures,
     )
 
 pub wipe-requires : goal.wipe-requires
 wipe-requires c =
-    let s = c.before.before.before.before.before in
-    let a = s.args in
+    let a = c.args in
     let T = c.class-table in (
-      omega (arith, s.requires.setting.few),
-      class-ends a.n (generators_in a.first.now) (generators_in a.second.now) a.frame s.requires.setting
+      omega (arith, c.requires.setting.few),
+      class-ends a.n (generators_in a.first.now) (generators_in a.second.now) a.frame c.requires.setting
           (equations_in T.new.0) T.ensures,
     )
 
 pub returns-then-not-answer : goal.returns-then-not-answer
 returns-then-not-answer c =
-    let s = c.before.before.before.before.before.before.before.before in
-    let a = s.args in
+    let a = c.args in
     let T = c.class-table in
     let A = c.least_classes-answer in
-    let none = not-true A.result.found c.if-not-answer.true in (
-      subst (λ b. LeastAnswer a.n (generators_of (generators_in a.first.now))
+    let none = not-true A.result.found c.if-not-answer.true in record { least_answer = subst (λ b. LeastAnswer a.n (generators_of (generators_in a.first.now))
           (generators_of (generators_in a.second.now)) b A.result.choice) (sym none)
           (least-answer a.n (generators_of (generators_in a.first.now))
-          (generators_of (generators_in a.second.now)) s.requires.setting.proper.within
+          (generators_of (generators_in a.second.now)) c.requires.setting.proper.within
           (framed-proper a.n (generators_of (generators_in a.second.now)) (codes_of a.frame)
-          s.requires.setting.framed).within false
+          c.requires.setting.framed).within false
           A.result.choice
-          (none-works a.n (generators_in a.first.now) (generators_in a.second.now) a.frame s.requires.setting
+          (none-works a.n (generators_in a.first.now) (generators_in a.second.now) a.frame c.requires.setting
           (equations_in T.new.0) T.ensures A.result.found
-          A.result.choice A.ensures none)),
-      c.wipe.ensures,
-    )
+          A.result.choice A.ensures none)); empty_from_2 = c.wipe.ensures }
 
 pub sign_table-requires : goal.sign_table-requires
 sign_table-requires c =
-    let s = c.before.before.before.before.before.before.before.before.before.before in
-    let a = s.args in
+    let a = c.args in
     let T = c.class-table in
     let A = c.least_classes-answer in
-    let C = A.ensures.some (not-false A.result.found c.if-not-answer.false) in record { setting = (s.requires.setting, C.codes, C.bare-codes); sent_up_to_sign = (
-        classes-send a.n (generators_in a.first.now) (generators_in a.second.now) a.frame s.requires.setting
+    let C = A.ensures.some (not-false A.result.found c.if-not-answer.false) in record { setting = (c.requires.setting, C.codes, C.bare-codes); sent_up_to_sign = (
+        classes-send a.n (generators_in a.first.now) (generators_in a.second.now) a.frame c.requires.setting
             (equations_in T.new.0) T.ensures
             (codes_of A.result.choice) C.chosen.hold,
         c.wipe.ensures,
@@ -72,50 +65,44 @@ sign_table-requires c =
 
 pub least_signs-choice-requires : goal.least_signs-choice-requires
 least_signs-choice-requires c =
-    let s = c.before.before.before.before.before.before.before.before.before.before.before.before in
-    let a = s.args in
+    let a = c.args in
     let T = c.class-table in
     let A = c.least-classes in
     let C = A.ensures.some (not-false A.result.found c.if1.false) in
-    let U = c.sign-table in (
-      (
-        s.requires.setting.few,
+    let U = c.sign-table in record { n_bound = (
+        c.requires.setting.few,
         U.ensures.0.triangular,
-        signs-extend a.n (generators_in a.first.now) (generators_in a.second.now) a.frame s.requires.setting
+        signs-extend a.n (generators_in a.first.now) (generators_in a.second.now) a.frame c.requires.setting
             (codes_of A.result.choice)
             (equations_in U.new.0) U.ensures
-            (classes-send a.n (generators_in a.first.now) (generators_in a.second.now) a.frame s.requires.setting
+            (classes-send a.n (generators_in a.first.now) (generators_in a.second.now) a.frame c.requires.setting
             (equations_in T.new.0) T.ensures
             (codes_of A.result.choice) C.chosen.hold),
-      ),
-      A.ensures.codes,
-    )
+      ); codes = A.ensures.codes }
 
 pub wipe-requires-2 : goal.wipe-requires-2
 wipe-requires-2 c =
-    let s = c.before.before.before.before.before.before.before.before.before.before.before.before.before.before in
-    let a = s.args in
+    let a = c.args in
     let A = c.least-classes in
     let U = c.sign-table in (
-      omega (arith, s.pre.0.few),
-      sign-ends a.n (generators_in a.first.now) (generators_in a.second.now) a.frame s.pre.0
+      omega (arith, c.requires.setting.few),
+      sign-ends a.n (generators_in a.first.now) (generators_in a.second.now) a.frame c.requires.setting
           (equations_in U.new.0) (codes_of A.result.choice) U.ensures,
     )
 
 pub returns : goal.returns
 returns c =
-    let s = c.before.before.before.before.before.before.before.before.before.before.before.before.before.before.before in
-    let a = s.args in
+    let a = c.args in
     let T = c.class-table in
     let A = c.least-classes in
     let C = A.ensures.some
     (not-false A.result.found c.if1.false) in
     let U = c.sign-table in
     let L = c.least_signs-choice in record { least_answer = least-answer a.n (generators_of (generators_in a.first.now)) (generators_of (generators_in a.second.now))
-          s.pre.0.proper.within
+          c.requires.setting.proper.within
           (framed-proper a.n (generators_of (generators_in a.second.now)) (codes_of a.frame)
-          s.pre.0.framed).within true
+          c.requires.setting.framed).within true
           L.result
-          (chosen-works a.n (generators_in a.first.now) (generators_in a.second.now) a.frame s.pre.0
+          (chosen-works a.n (generators_in a.first.now) (generators_in a.second.now) a.frame c.requires.setting
           (equations_in T.last.0) T.ensures
           A.result.choice C (equations_in U.new.0) U.ensures L.result L.ensures); empty_from_2 = c.wipe-2.ensures }

@@ -20,13 +20,12 @@ least_class-v-requires c = omega (arith, c.requires.0, c.loop-q-test.true)
 
 pub returns-then-v-ge6 : goal.returns-then-v-ge6
 returns-then-v-ge6 c =
-    let s = c.before.before.before.before.before in
     let l = c.loop-q in
     let more = c.loop-q-test.true in
-    let inside : l.q < length l.choice = omega (arith, s.requires.0, more, l.invariant.0.long) in
-    classes-none s.args.n s.requires.0 (equations_in s.args.table.now) s.requires.1 s.requires.2 l.q l.choice
+    let inside : l.q < length l.choice = omega (arith, c.requires.0, more, l.invariant.0.long) in
+    classes-none c.args.n c.requires.0 (equations_in c.args.table.now) c.requires.1 c.requires.2 l.q l.choice
     l.invariant.0 more c.least_class-v.result
-    (c.least_class-v.ensures s.args.n l.choice more inside l.invariant.1) c.if-v-ge6.true false refl
+    (c.least_class-v.ensures c.args.n l.choice more inside l.invariant.1) c.if-v-ge6.true false refl
 
 pub bounds-choice-q : goal.bounds-choice-q
 bounds-choice-q c =
@@ -36,21 +35,19 @@ bounds-choice-q c =
 
 pub with_class-next-requires : goal.with_class-next-requires
 with_class-next-requires c =
-    let s = c.before.before.before.before.before in
-    (omega (arith, s.requires.0, c.loop-q-test.true), omega (arith, c.if-v-ge6.false))
+    (omega (arith, c.requires.0, c.loop-q-test.true), omega (arith, c.if-v-ge6.false))
 
 pub loop-q-preserved : goal.loop-q-preserved
 loop-q-preserved c =
-    let s = c.before.before.before.before.before.before in
     let l = c.loop-q in
     let more = c.loop-q-test.true in
     let v = c.least_class-v in
-    let inside : l.q < length l.choice = omega (arith, s.requires.0, more, l.invariant.0.long) in (
-      classes-more s.args.n s.requires.0 (equations_in s.args.table.now) s.requires.1 s.requires.2 l.q
+    let inside : l.q < length l.choice = omega (arith, c.requires.0, more, l.invariant.0.long) in (
+      classes-more c.args.n c.requires.0 (equations_in c.args.table.now) c.requires.1 c.requires.2 l.q
           l.choice
-          l.invariant.0 more v.result (v.ensures s.args.n l.choice more inside l.invariant.1)
+          l.invariant.0 more v.result (v.ensures c.args.n l.choice more inside l.invariant.1)
           (omega (arith, c.if-v-ge6.false)),
-      c.with_class-next.ensures s.args.n l.choice more inside l.invariant.1,
+      c.with_class-next.ensures c.args.n l.choice more inside l.invariant.1,
     )
 
 pub returns : goal.returns

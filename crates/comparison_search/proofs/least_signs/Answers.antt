@@ -9,9 +9,9 @@ use Rattle.comparison_search.proofs.least_signs.Goals as goal
 
 pub loop-q-init : goal.loop-q-init
 loop-q-init c =
-    let s = c.before in (
-      signs-begin s.args.n (equations_in s.args.table.now) s.args.classes s.well_formed.1.1.0.1.0.1
-          s.requires.codes,
+    (
+      signs-begin c.args.n (equations_in c.args.table.now) c.args.classes c.well_formed.1.1.0.1.0.1
+          c.requires.codes,
       c.sign_words-held.ensures,
     )
 
@@ -23,29 +23,27 @@ bounds-choice-q c = omega (arith, c.requires.n_bound.0, c.loop-q-test.true)
 
 pub overflow_mul-choice : goal.overflow_mul-choice
 overflow_mul-choice c =
-    let s = c.before.before.before.before in
     let l = c.loop-q in
     let more = c.loop-q-test.true in
-    let inside : l.q < length l.choice = omega (arith, s.requires.n_bound.0, more, l.invariant.0.long) in
+    let inside : l.q < length l.choice = omega (arith, c.requires.n_bound.0, more, l.invariant.0.long) in
     let small =
-    signs-fit s.args.n s.requires.n_bound.0 (equations_in s.args.table.now) s.requires.n_bound.1 s.requires.n_bound.2
-    s.args.classes
+    signs-fit c.args.n c.requires.n_bound.0 (equations_in c.args.table.now) c.requires.n_bound.1 c.requires.n_bound.2
+    c.args.classes
     l.q l.choice l.invariant.0 more c.least_sign-v.result
-    (c.least_sign-v.ensures s.args.n l.choice more inside l.invariant.1) in
+    (c.least_sign-v.ensures c.args.n l.choice more inside l.invariant.1) in
     let code = l.invariant.0.codes l.q in
     search rules
 
 pub overflow_add-choice : goal.overflow_add-choice
 overflow_add-choice c =
-    let s = c.before.before.before.before in
     let l = c.loop-q in
     let more = c.loop-q-test.true in
-    let inside : l.q < length l.choice = omega (arith, s.requires.n_bound.0, more, l.invariant.0.long) in
+    let inside : l.q < length l.choice = omega (arith, c.requires.n_bound.0, more, l.invariant.0.long) in
     let small =
-    signs-fit s.args.n s.requires.n_bound.0 (equations_in s.args.table.now) s.requires.n_bound.1 s.requires.n_bound.2
-    s.args.classes
+    signs-fit c.args.n c.requires.n_bound.0 (equations_in c.args.table.now) c.requires.n_bound.1 c.requires.n_bound.2
+    c.args.classes
     l.q l.choice l.invariant.0 more c.least_sign-v.result
-    (c.least_sign-v.ensures s.args.n l.choice more inside l.invariant.1) in
+    (c.least_sign-v.ensures c.args.n l.choice more inside l.invariant.1) in
     let code = l.invariant.0.codes l.q in
     search rules
 
@@ -57,15 +55,14 @@ with_signs-next-requires c = omega (arith, c.requires.n_bound.0, c.loop-q-test.t
 
 pub loop-q-preserved : goal.loop-q-preserved
 loop-q-preserved c =
-    let s = c.before.before.before.before.before in
     let l = c.loop-q in
     let more = c.loop-q-test.true in
     let v = c.least_sign-v in
-    let inside : l.q < length l.choice = omega (arith, s.requires.n_bound.0, more, l.invariant.0.long) in (
-      signs-more s.args.n s.requires.n_bound.0 (equations_in s.args.table.now) s.requires.n_bound.1 s.requires.n_bound.2
-          s.args.classes l.q l.choice l.invariant.0 more v.result
-          (v.ensures s.args.n l.choice more inside l.invariant.1),
-      c.with_signs-next.ensures s.args.n l.choice more inside l.invariant.1,
+    let inside : l.q < length l.choice = omega (arith, c.requires.n_bound.0, more, l.invariant.0.long) in (
+      signs-more c.args.n c.requires.n_bound.0 (equations_in c.args.table.now) c.requires.n_bound.1 c.requires.n_bound.2
+          c.args.classes l.q l.choice l.invariant.0 more v.result
+          (v.ensures c.args.n l.choice more inside l.invariant.1),
+      c.with_signs-next.ensures c.args.n l.choice more inside l.invariant.1,
     )
 
 pub returns : goal.returns

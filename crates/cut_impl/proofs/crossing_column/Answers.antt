@@ -11,7 +11,5 @@ returns-then-has c =
 
 pub returns-else-has : goal.returns-else-has
 returns-else-has c =
-    let H = c.before.before.before in
-    let S = H.before.before in
-    crossing-word S.args.neighbours.now S.args.side S.args.k S.requires.by_index
-    (sym H.has.ensures ∙ c.if-has.false)
+    crossing-word c.args.neighbours.now c.args.side c.args.k c.requires.by_index
+    (sym c.has.ensures ∙ c.if-has.false)

@@ -18,27 +18,20 @@ loop-k-init c = spanning-start _ _
 
 pub crossing_column-column-requires : goal.crossing_column-column-requires
 crossing_column-column-requires c =
-    let S = c.before.before.before.before in
-    let k = c.loop-k.k in
-    ((search rules, search rules), λ j. S.requires.simple.symmetric j k)
+    let k = c.loop-k.k in record { k_bound = (search rules, search rules); by_index = λ j. c.requires.simple.symmetric j k }
 
 pub remainder-rest-requires : goal.remainder-rest-requires
 remainder-rest-requires c =
-    let L = c.before.before.before.before in
-    let S = L.before.before in
-    let M = crossing (bit S.args.side) (graph_in S.args.neighbours.now) in
-    in-echelon S.args.n S.requires.n_bound.0 M _ _ _ L.loop-k.invariant
+    let M = crossing (bit c.args.side) (graph_in c.args.neighbours.now) in
+    in-echelon c.args.n c.requires.n_bound.0 M _ _ _ c.loop-k.invariant
 
 pub bounds-basis-smallest : goal.bounds-basis-smallest
 bounds-basis-smallest c =
-    let R = c.before.before.before in
-    let L = R.before.before.before.before in
-    let S = L.before.before in
-    let M = crossing (bit S.args.side) (graph_in S.args.neighbours.now) in
-    let below = crossing-below S.args.n S.args.side (graph_in S.args.neighbours.now) _ _ S.requires.n_bound.2
-    R.crossing_column-column.ensures in
-    place-below S.args.n S.requires.n_bound.0 M _ _ _ L.loop-k.invariant R.loop-k-test.true _
-    below R.crossing_column-column.ensures _ R.remainder-rest.ensures c.if-rest-ne0.true _
+    let M = crossing (bit c.args.side) (graph_in c.args.neighbours.now) in
+    let below = crossing-below c.args.n c.args.side (graph_in c.args.neighbours.now) _ _ c.requires.n_bound.2
+    c.crossing_column-column.ensures in
+    place-below c.args.n c.requires.n_bound.0 M _ _ _ c.loop-k.invariant c.loop-k-test.true _
+    below c.crossing_column-column.ensures _ c.remainder-rest.ensures c.if-rest-ne0.true _
     c.smallest.ensures.0
 
 pub overflow_add-rank : goal.overflow_add-rank
@@ -46,23 +39,19 @@ overflow_add-rank c = omega (arith, c.loop-k.invariant.few)
 
 pub loop-k-preserved : goal.loop-k-preserved
 loop-k-preserved c =
-    let R = c.before.before in
-    let L = R.before.before.before.before in
-    let S = L.before.before in
-    let M = crossing (bit S.args.side) (graph_in S.args.neighbours.now) in
-    let below = crossing-below S.args.n S.args.side (graph_in S.args.neighbours.now) _ _ S.requires.n_bound.2
-    R.crossing_column-column.ensures in
+    let M = crossing (bit c.args.side) (graph_in c.args.neighbours.now) in
+    let below = crossing-below c.args.n c.args.side (graph_in c.args.neighbours.now) _ _ c.requires.n_bound.2
+    c.crossing_column-column.ensures in
     ⊎_elim
-    (λ w. rw (w.2, w.3) (column-stored S.args.n S.requires.n_bound.0 M _ _ _ L.loop-k.invariant
-    R.loop-k-test.true _ below R.crossing_column-column.ensures _
-    R.remainder-rest.ensures w.0.taken _ w.1.ensures.0))
-    (λ w. rw (w.1, w.2) (column-passed S.args.n S.requires.n_bound.0 M _ _ _ L.loop-k.invariant
-    R.loop-k-test.true _ below R.crossing_column-column.ensures _
-    R.remainder-rest.ensures w.0.left))
+    (λ w. rw (w.2, w.3) (column-stored c.args.n c.requires.n_bound.0 M _ _ _ c.loop-k.invariant
+    c.loop-k-test.true _ below c.crossing_column-column.ensures _
+    c.remainder-rest.ensures w.0.true _ w.1.ensures.0))
+    (λ w. rw (w.1, w.2) (column-passed c.args.n c.requires.n_bound.0 M _ _ _ c.loop-k.invariant
+    c.loop-k-test.true _ below c.crossing_column-column.ensures _
+    c.remainder-rest.ensures w.0.left))
     c.if-rest-ne0.branch
 
 pub returns : goal.returns
 returns c =
-    let S = c.before.before.before.before in
-    let M = crossing (bit S.args.side) (graph_in S.args.neighbours.now) in
-    all-counted S.args.n S.requires.n_bound.0 M _ _ _ c.loop-k.invariant c.loop-k-test.false
+    let M = crossing (bit c.args.side) (graph_in c.args.neighbours.now) in
+    all-counted c.args.n c.requires.n_bound.0 M _ _ _ c.loop-k.invariant c.loop-k-test.false

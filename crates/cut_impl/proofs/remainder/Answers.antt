@@ -9,28 +9,21 @@ loop-rest-init c = reducing-start _ _ c.ranges.w.fits
 
 pub bounds-basis-i : goal.bounds-basis-i
 bounds-basis-i c =
-    let L = c.before.before.before.before in
-    smallest-below _ L.requires _ _ L.loop-rest.invariant c.loop-rest-test.true _ c.smallest-i.ensures.0
+    smallest-below _ c.requires _ _ c.loop-rest.invariant c.loop-rest-test.true _ c.smallest-i.ensures.0
 
 pub returns-then-word-eq0 : goal.returns-then-word-eq0
 returns-then-word-eq0 c =
-    let P = c.before.before.before.before in
-    let L = P.before.before in
-    reduced-no-more _ L.requires _ _ L.loop-rest.invariant P.loop-rest-test.true _ P.smallest-i.ensures.0
+    reduced-no-more _ c.requires _ _ c.loop-rest.invariant c.loop-rest-test.true _ c.smallest-i.ensures.0
     c.if-word-eq0.true
 
 pub loop-rest-smaller : goal.loop-rest-smaller
 loop-rest-smaller c =
-    let P = c.before.before.before.before in
-    let L = P.before.before in
-    smallest-rises _ L.requires _ _ L.loop-rest.invariant P.loop-rest-test.true _ P.smallest-i.ensures.0
+    smallest-rises _ c.requires _ _ c.loop-rest.invariant c.loop-rest-test.true _ c.smallest-i.ensures.0
     c.if-word-eq0.false
 
 pub loop-rest-preserved : goal.loop-rest-preserved
 loop-rest-preserved c =
-    let P = c.before.before.before.before in
-    let L = P.before.before in
-    reduced-once _ L.requires _ _ L.loop-rest.invariant P.loop-rest-test.true _ P.smallest-i.ensures.0
+    reduced-once _ c.requires _ _ c.loop-rest.invariant c.loop-rest-test.true _ c.smallest-i.ensures.0
     c.if-word-eq0.false
 
 pub returns : goal.returns

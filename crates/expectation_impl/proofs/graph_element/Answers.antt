@@ -29,16 +29,16 @@ single-requires c =
 pub loop-j-preserved : goal.loop-j-preserved
 loop-j-preserved c =
     let L = c.loop-j in
-    let S = c.before.before.before.before.before.before in
-    let a = S.args in
+    
+    let a = c.args in
     let test = c.has.ensures in
     let more = c.loop-j-test.true in
     ⊎_elim
     (λ k. subst (PartElement a.neighbours.now a.chosen (L.j + 1)) (sym k.4)
-    (element-on a.neighbours.now a.chosen S.requires.0 S.requires.1 L.j L.element L.invariant more _
-    k.2.ensures _ (sym test ∙ k.0.taken) k.3.ensures))
+    (element-on a.neighbours.now a.chosen c.requires.0 c.requires.1 L.j L.element L.invariant more _
+    k.2.ensures _ (sym test ∙ k.0.true) k.3.ensures))
     (λ k. subst (PartElement a.neighbours.now a.chosen (L.j + 1)) (sym k.1)
-    (element-off a.neighbours.now a.chosen S.requires.0 S.requires.1 L.j L.element L.invariant more
+    (element-off a.neighbours.now a.chosen c.requires.0 c.requires.1 L.j L.element L.invariant more
     (sym test ∙ k.0.left)))
     c.if-has.branch
 

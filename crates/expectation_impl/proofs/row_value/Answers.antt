@@ -12,24 +12,20 @@ use Rattle.expectation_impl.proofs.row_value.Goals as goal
 
 pub graph_element-requires : goal.graph_element-requires
 graph_element-requires c =
-    let S = c.before.before.before.before in
-    let A = S.requires.accepted_record in
-    let words = S.args.neighbours.now in (
+    let A = c.requires.accepted_record in
+    let words = c.args.neighbours.now in (
       subst (λ m. m ≤ 64) (sym A.neighbours-length) A.upto,
       subst (λ m. Simple m (graph_in words)) (sym A.neighbours-length) A.simple,
     )
 
 pub returns : goal.returns
 returns c =
-    let E = c.before.before in
-    let B = E.before in
-    let S = B.before.before.before in
-    let a = S.args in
-    let A = S.requires.accepted_record in
+    let a = c.args in
+    let A = c.requires.accepted_record in
     let l : LentRecord = lent_record a.n a.neighbours.now a.codes.now in
     c.read.ensures
-    ∙ read_is l A a.z a.x S.requires.z_bound.0 S.requires.z_bound.1 _ B.send_back-row.ensures _
-    E.graph_element.ensures.1
-    (subst (λ m. pauli_of E.graph_element.result
-    ≡ product m m (bit B.send_back-row.result.x) (graph_generator (graph_in l.neighbours)))
-    A.neighbours-length E.graph_element.ensures.0)
+    ∙ read_is l A a.z a.x c.requires.z_bound.0 c.requires.z_bound.1 _ c.send_back-row.ensures _
+    c.graph_element.ensures.1
+    (subst (λ m. pauli_of c.graph_element.result
+    ≡ product m m (bit c.send_back-row.result.x) (graph_generator (graph_in l.neighbours)))
+    A.neighbours-length c.graph_element.ensures.0)

@@ -8,7 +8,6 @@ use Rattle.jobs.proofs.unused_set.Goals as goal
 
 pub returns : goal.returns
 returns c =
-    let S = c.before.before in
-    ap₂ (λ p q. (p && not (eqb S.args.b 0)) || (q && not (eqb S.args.value 0)))
+    ap₂ (λ p q. (p && not (eqb c.args.b 0)) || (q && not (eqb c.args.value 0)))
     c.without_b.ensures c.without_value.ensures
-    ∙ unused-set-by S.args.op S.args.b S.args.value
+    ∙ unused-set-by c.args.op c.args.b c.args.value

@@ -8,6 +8,5 @@ use Rattle.jobs.proofs.wrong_value.Goals as goal
 
 pub returns : goal.returns
 returns c =
-    let S = c.before in
-    ap (λ m. leb m S.args.value) c.value_limit.ensures
-    ∙ wrong-value-by S.args.op S.args.value (search rules)
+    ap (λ m. leb m c.args.value) c.value_limit.ensures
+    ∙ wrong-value-by c.args.op c.args.value (search rules)

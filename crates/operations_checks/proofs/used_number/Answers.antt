@@ -23,74 +23,53 @@ five S = leb (2 ^ S.args.n) S.args.word
 
 pub returns-then-number-eq2 : goal.returns-then-number-eq2
 returns-then-number-eq2 c =
-    let E = c.before.before in
-    let S = E.before.before.before in
-    number-2 (lent S) S.args.others (five S) S.args.six _ E.record_number-number.ensures c.if-number-eq2.true
+    let S = c.before.before.before.before.before in
+    number-2 (lent S) S.args.others (five S) S.args.six _ c.record_number-number.ensures c.if-number-eq2.true
 
 pub returns-then-number-eq4 : goal.returns-then-number-eq4
 returns-then-number-eq4 c =
-    let E = c.before.before.before in
-    let S = E.before.before.before in
-    number-4 (lent S) S.args.others (five S) S.args.six _ E.record_number-number.ensures c.if-number-eq2.false
+    let S = c.before.before.before.before.before.before in
+    number-4 (lent S) S.args.others (five S) S.args.six _ c.record_number-number.ensures c.if-number-eq2.false
     c.if-number-eq4.true
 
 pub stray-requires : goal.stray-requires
 stray-requires c =
-    let E = c.before.before.before in
-    let S = E.before.before.before in
-    word-tested (lent S) S.args.others (five S) S.args.six _ E.record_number-number.ensures c.if-number-eq2.false
+    let S = c.before.before.before.before.before.before in
+    word-tested (lent S) S.args.others (five S) S.args.six _ c.record_number-number.ensures c.if-number-eq2.false
 
 pub stray-requires-2 : goal.stray-requires-2
 stray-requires-2 c =
-    let E = c.before.before.before.before in
-    let S = E.before.before.before in
-    word-tested (lent S) S.args.others (five S) S.args.six _ E.record_number-number.ensures
+    let S = c.before.before.before.before.before.before.before in
+    word-tested (lent S) S.args.others (five S) S.args.six _ c.record_number-number.ensures
     c.if-number-eq2.false
 
 pub returns-then-stray : goal.returns-then-stray
 returns-then-stray c =
-    let W = c.before.before in
-    let T = W.before.before in
-    let E = T.before.before in
-    let S = E.before.before.before in
-    number-5 (lent S) S.args.others (five S) S.args.six _ E.record_number-number.ensures T.if-number-eq2.false
-    T.if-number-eq4.false (either-says W.stray.ensures W.stray-2.ensures c.if-stray.true)
+    let S = c.before.before.before.before.before.before.before.before.before in
+    number-5 (lent S) S.args.others (five S) S.args.six _ c.record_number-number.ensures c.if-number-eq2.false
+    c.if-number-eq4.false (either-says c.stray.ensures c.stray-2.ensures c.if-stray.true)
 
 pub returns-then-number-ne0 : goal.returns-then-number-ne0
 returns-then-number-ne0 c =
-    let G = c.before.before in
-    let W = G.before in
-    let E = W.before.before.before.before in
-    let S = E.before.before.before in
-    number-other (lent S) S.args.others (five S) S.args.six _ E.record_number-number.ensures
-    (either-says W.stray.ensures W.stray-2.ensures G.if-stray.false) c.if-number-ne0.true
+    let S = c.before.before.before.before.before.before.before.before.before.before in
+    number-other (lent S) S.args.others (five S) S.args.six _ c.record_number-number.ensures
+    (either-says c.stray.ensures c.stray-2.ensures c.if-stray.false) c.if-number-ne0.true
 
 pub used_wrong-requires : goal.used_wrong-requires
 used_wrong-requires c =
-    let G = c.before.before in
-    let W = G.before in
-    let E = W.before.before.before.before in
-    let S = E.before.before.before in let whole = vertices-tested (lent S) S.args.others (five S) S.args.six _ E.record_number-number.ensures
-    (either-says W.stray.ensures W.stray-2.ensures G.if-stray.false) c.if-number-ne0.false in record { neighbours_len_bound = whole.0; used_bound = whole.1 }
+    let S = c.before.before.before.before.before.before.before.before.before.before in let whole = vertices-tested (lent S) S.args.others (five S) S.args.six _ c.record_number-number.ensures
+    (either-says c.stray.ensures c.stray-2.ensures c.if-stray.false) c.if-number-ne0.false in record { neighbours_len_bound = whole.0; used_bound = whole.1 }
 
 pub returns-then-used_wrong : goal.returns-then-used_wrong
 returns-then-used_wrong c =
-    let U = c.before.before in
-    let G = U.before.before in
-    let W = G.before in
-    let E = W.before.before.before.before in
-    let S = E.before.before.before in
-    number-7 (lent S) S.args.others (five S) S.args.six _ E.record_number-number.ensures
-    (either-says W.stray.ensures W.stray-2.ensures G.if-stray.false) U.if-number-ne0.false _
-    U.used_wrong.ensures c.if-used_wrong.true
+    let S = c.before.before.before.before.before.before.before.before.before.before.before.before in
+    number-7 (lent S) S.args.others (five S) S.args.six _ c.record_number-number.ensures
+    (either-says c.stray.ensures c.stray-2.ensures c.if-stray.false) c.if-number-ne0.false _
+    c.used_wrong.ensures c.if-used_wrong.true
 
 pub returns-else-used_wrong : goal.returns-else-used_wrong
 returns-else-used_wrong c =
-    let U = c.before.before in
-    let G = U.before.before in
-    let W = G.before in
-    let E = W.before.before.before.before in
-    let S = E.before.before.before in
-    number-0 (lent S) S.args.others (five S) S.args.six _ E.record_number-number.ensures
-    (either-says W.stray.ensures W.stray-2.ensures G.if-stray.false) U.if-number-ne0.false _
-    U.used_wrong.ensures c.if-used_wrong.false
+    let S = c.before.before.before.before.before.before.before.before.before.before.before.before in
+    number-0 (lent S) S.args.others (five S) S.args.six _ c.record_number-number.ensures
+    (either-says c.stray.ensures c.stray-2.ensures c.if-stray.false) c.if-number-ne0.false _
+    c.used_wrong.ensures c.if-used_wrong.false

@@ -15,19 +15,13 @@ single-requires c =
 
 pub settle_all-requires : goal.settle_all-requires
 settle_all-requires c =
-    let at-single = c.before.before in
-    let at-gate = at-single.before.before.before in
-    let begun = at-gate.before.before.before.before in
-    let a = begun.args in
+    let a = c.args in
     
-    let gated = at-gate.gate_code.ensures in
-    let own = at-single.single.ensures in record { unrefused = gated-unrefused _ _ begun.requires.unrefused a.q begun.requires.q_in_bounds.0 a.k _ gated; suspected = gate-suspected _ _ a.q _ _ gated _ a.touched own begun.requires.suspected.0; watched = gate-watched _ _ a.q _ _ gated _ a.touched own begun.requires.q_in_bounds.0 begun.requires.suspected.1 }
+    let gated = c.gate_code.ensures in
+    let own = c.single.ensures in record { unrefused = gated-unrefused _ _ c.requires.unrefused a.q c.requires.q_in_bounds.0 a.k _ gated; suspected = gate-suspected _ _ a.q _ _ gated _ a.touched own c.requires.suspected.0; watched = gate-watched _ _ a.q _ _ gated _ a.touched own c.requires.q_in_bounds.0 c.requires.suspected.1 }
 
 pub returns : goal.returns
 returns c =
-    let at-settle = c.before.before.before.before.before in
-    let at-gate = at-settle.before.before.before.before.before.before in
-    let begun = at-gate.before.before.before.before in
-    let a = begun.args in
-    gated-reduced _ _ begun.requires.unrefused a.q begun.requires.q_in_bounds.0 a.k _ at-gate.gate_code.ensures _ _
-    at-settle.settle_all.ensures
+    let a = c.args in
+    gated-reduced _ _ c.requires.unrefused a.q c.requires.q_in_bounds.0 a.k _ c.gate_code.ensures _ _
+    c.settle_all.ensures

@@ -4,5 +4,4 @@ use Rattle.operations_measurement.proofs.contradicted.Goals as goal
 
 pub returns : goal.returns
 returns c =
-    let at-read-off = c.before.before.before in
-    contradicted-as-read _ _ _ _ _ _ at-read-off.read_off-known.ensures _
+    contradicted-as-read _ _ _ _ _ _ c.read_off-known.ensures _

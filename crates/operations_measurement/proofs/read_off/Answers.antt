@@ -12,15 +12,8 @@ image-own-requires c = (unrefused-codes _ _ c.requires.unrefused.0).1 _
 
 pub returns : goal.returns
 returns c =
-    let at-x-bit = c.before.before.before in
-    let at-z-bit2 = at-x-bit.before in
-    let at-z-bit = at-z-bit2.before in
-    let at-letter-named = at-z-bit.before in
-    let at-image = at-letter-named.before in
-    let begun = at-image.before.before.before.before in
-    
-    let own = at-image.image-own in
-    read-by-calls _ _ begun.requires.unrefused.0 _ begun.requires.unrefused.1 _ begun.requires.le_pauli.0 own.result.minus at-image.image-own.ensures.letter_value
-    at-image.image-own.ensures.minus_value at-letter-named.letter_named-asked.ensures
-    at-z-bit.z_bit.ensures at-z-bit2.z_bit-2.ensures
-    at-x-bit.x_bit.ensures c.x_bit-2.ensures
+    let own = c.image-own in
+    read-by-calls _ _ c.requires.unrefused.0 _ c.requires.unrefused.1 _ c.requires.le_pauli.0 own.result.minus c.image-own.ensures.letter_value
+    c.image-own.ensures.minus_value c.letter_named-asked.ensures
+    c.z_bit.ensures c.z_bit-2.ensures
+    c.x_bit.ensures c.x_bit-2.ensures

@@ -7,31 +7,18 @@ use Rattle.record.proofs.AcceptedRecords.{accepted-record}
 use Rattle.parity_impl.proofs.measure_row_record.Goals as goal
 
 pub row_value-value-requires : goal.row_value-value-requires
-row_value-value-requires c =
-    let S = c.before.before.before.before in (
-      accepted-record (record_in S.args.neighbours.now S.args.codes.now) false false S.requires.unrefused.no_line,
-      S.requires.z_bound,
-    )
+row_value-value-requires c = record { accepted_record = accepted-record (record_in c.args.neighbours.now c.args.codes.now) false false c.requires.unrefused.no_line; z_bound = c.requires.z_bound }
 
 pub measure_open-requires : goal.measure_open-requires
-measure_open-requires c =
-    let T = c.before.before in
-    let W = T.before in
-    let S = W.before.before.before.before.before in record { unrefused = S.requires.unrefused; z_bound = S.requires.z_bound; x_value = sym W.row_value-value.ensures ∙ T.if-value-eq2.true }
+measure_open-requires c = record { unrefused = c.requires.unrefused; z_bound = c.requires.z_bound; x_value = sym c.row_value-value.ensures ∙ c.if-value-eq2.true }
 
 pub returns-then-value-eq2 : goal.returns-then-value-eq2
 returns-then-value-eq2 c =
-    let M = c.before.before.before.before.before in
-    let T = M.before.before.before in
-    let W = T.before in
-    left-chosen _ _ _ _ _ _ _ (sym W.row_value-value.ensures ∙ T.if-value-eq2.true) M.measure_open.ensures
+    left-chosen _ _ _ _ _ _ _ (sym c.row_value-value.ensures ∙ c.if-value-eq2.true) c.measure_open.ensures
 
 pub normalise-requires : goal.normalise-requires
 normalise-requires c = c.requires.unrefused
 
 pub returns : goal.returns
 returns c =
-    let N = c.before.before.before.before.before in
-    let T = N.before.before.before in
-    let W = T.before in
-    left-determined _ _ _ _ _ _ _ _ W.row_value-value.ensures T.if-value-eq2.false N.normalise.ensures
+    left-determined _ _ _ _ _ _ _ _ c.row_value-value.ensures c.if-value-eq2.false c.normalise.ensures

@@ -6,20 +6,18 @@ use Rattle.record_reduction.proofs.load_list.Goals as goal
 
 pub loop-j-init : goal.loop-j-init
 loop-j-init c =
-    let S = c.before.before.before.before in
-    load-start _ _ _ refl S.requires.minuses_value
+    load-start _ _ _ refl c.requires.minuses_value
 
 pub loop-j-preserved : goal.loop-j-preserved
 loop-j-preserved c =
-    let I = c.before.before.before.before.before.before in
-    let L = I.loop-j in
-    let S = I.before.before.before.before.before in
-    load_step _ L.loaded L.minuses L.j L.invariant I.loop-j-test.true S.requires.n_bound.0 _ _ _ refl refl
+    let L = c.loop-j in
+    
+    load_step _ L.loaded L.minuses L.j L.invariant c.loop-j-test.true c.requires.n_bound.0 _ _ _ refl refl
     c.flip_where.ensures
 
 pub returns : goal.returns
 returns c =
     let L = c.loop-j in
-    let S = c.before.before.before.before.before.before in
-    load-end _ L.loaded L.minuses L.j L.invariant c.loop-j-test.false S.requires.n_bound.1 S.requires.n_bound.2
-    S.requires.n_bound.3
+    
+    load-end _ L.loaded L.minuses L.j L.invariant c.loop-j-test.false c.requires.n_bound.1 c.requires.n_bound.2
+    c.requires.n_bound.3

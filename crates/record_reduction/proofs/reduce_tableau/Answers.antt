@@ -121,26 +121,25 @@ rows_in c = relative (bit c.loop-q.signs) c.loop-q.rows
 abbrev free_in : Then2 → ℕ
 free_in c =
     bit_xor c.loop-j.holders (bit_and c.loop-j.holders (turn
-    c).before.loop3.pivots)
+    c).loop-q.pivots)
 
 -- the rows after row q was lent the bit, by the first of them
 abbrev lent-in : Then2 → ℕ → Pauli
 lent-in c =
     shear 64 (rows_in (turn c)) (count_trailing_zeros 64 (free_in c))
-    (lend (rows_in (turn c)) (turn c).before.loop3.q)
+    (lend (rows_in (turn c)) (turn c).loop-q.q)
 
 -- the array with the row that was lent a bit
 abbrev rows-lent : AfterFlipWhere2 → List (List ℕ)
 rows-lent c =
-    let M = c.before.before.before.before.before.before in
-    let L = (turn M.before.before.before).before.loop3 in
+    let L = (turn c.before.before.before.before.before.before.before.before.before).loop-q in
     set L.rows L.q (bit_xor (get_or (get_or L.rows L.q []) 0 0)
-    (get_or (get_or L.rows M.smallest-i.result []) 0 0)
-    ∷ bit_xor (get_or (get_or L.rows L.q []) 1 0) (get_or (get_or L.rows M.smallest-i.result []) 1 0) ∷ [])
+    (get_or (get_or L.rows c.smallest-i.result []) 0 0)
+    ∷ bit_xor (get_or (get_or L.rows L.q []) 1 0) (get_or (get_or L.rows c.smallest-i.result []) 1 0) ∷ [])
 
 -- before row q is multiplied into others: its number, the signs with its own laid on, and without
 abbrev column-laid : AfterRowKnown → ℕ
-column-laid c = (turn c.before.before.before.before.before.before.before).before.loop3.q
+column-laid c = (turn c.before.before.before.before.before.before.before).loop-q.q
 
 abbrev signs-laid : AfterRowKnown → ℕ
 signs-laid c = bit_xor c.if-not-has-2.signs c.where_true-signs.result
@@ -153,48 +152,45 @@ signs-before c =
 -- ---- the signs made relative
 pub loop-k-init : goal.loop-k-init
 loop-k-init c =
-    let S = c.before.before.before.before in
-    paired-start S.args.rows S.args.signs S.args.n
+    paired-start c.args.rows c.args.signs c.args.n
 
 pub loop-k-preserved : goal.loop-k-preserved
 loop-k-preserved c =
-    let I = c.before.before.before.before in
-    let L = I.loop-k in
-    let S = I.before.before.before.before.before in
-    paired-step S.args.rows S.args.signs S.args.n L.signs L.k L.invariant I.loop-k-test.true
+    let L = c.loop-k in
+    
+    paired-step c.args.rows c.args.signs c.args.n L.signs L.k L.invariant c.loop-k-test.true
     c.odd_pairs.ensures c.flip_where-signs.ensures
 
 related : (c : AtLoop2) (j : ℕ)
-    → relative (bit c.loop-k.signs) (start-2 c).args.t1 j
-    ≡ tableau (start-2 c).args.signs (start-2 c).args.t1 j
+    → relative (bit c.loop-k.signs) (start-2 c).args.rows j
+    ≡ tableau (start-2 c).args.signs (start-2 c).args.rows j
 related c =
     let S = (start-2 c) in
     let L = c.loop-k in
-    paired-end S.args.t1 S.args.signs S.args.n L.signs L.k L.invariant c.loop-k-test.false
-    S.pre.1
+    paired-end S.args.rows S.args.signs S.args.n L.signs L.k L.invariant c.loop-k-test.false
+    S.requires.loaded
 
 loaded : (c : AtLoop2) → Loaded (start-2 c).args.n (relative (bit c.loop-k.signs) (start-2
-    c).args.t1)
-loaded c = related-loaded (start-2 c).args.n (related c) (start-2 c).pre.1
+    c).args.rows)
+loaded c = related-loaded (start-2 c).args.n (related c) (start-2 c).requires.loaded
 
 -- ---- the rounds
 pub loop-round-init : goal.loop-round-init
 loop-round-init c =
-    let K = c.before.before in
-    let S = K.before.before.before.before in (
-      stage-start S.args.n K.mask-all.result (relative (bit K.loop-k.signs) S.args.rows) 0,
-      S.well_formed.0.1.0.1,
+    (
+      stage-start c.args.n c.mask-all.result (relative (bit c.loop-k.signs) c.args.rows) 0,
+      c.well_formed.0.1.0.1,
     )
 
 loaded2 : (c : InLoop2) → Loaded (start-2 c.before).args.n (relative (bit c.loop-round.signs)
     c.loop-round.rows)
 loaded2 c =
     let A = c.before in
-    let K = A.before.before in
+    
     let S = start-2 A in
     let L = A.loop-round in
-    stage-loaded S.args.n S.pre.0.1 K.mask-all.result K.mask-all.ensures
-    (relative (bit K.loop-k.signs) S.args.t1) (loaded A) (relative (bit L.signs) L.rows) L.pivots
+    stage-loaded S.args.n S.requires.le_n.1 A.mask-all.result A.mask-all.ensures
+    (relative (bit A.loop-k.signs) S.args.rows) (loaded A) (relative (bit L.signs) L.rows) L.pivots
     L.hadamards
     L.round L.invariant.0 c.loop-round-test.true
 
@@ -206,10 +202,10 @@ loaded3 : (c : InLoop3) → Loaded (start-3 c).args.n (relative (bit c.loop-q.si
     c.loop-q.rows)
 loaded3 c =
     let I = c.before.before in
-    eliminated-loaded (start-3 c).args.n (start-3 c).pre.0.1 (loaded2 I) c.loop-q.invariant.2
+    eliminated-loaded (start-3 c).args.n (start-3 c).requires.le_n.1 (loaded2 I) c.loop-q.invariant.2
 
 column : (c : InLoop3) → c.loop-q.q < 64
-column c = lt_of_lt_of_le c.loop-q-test.true (start-3 c).pre.0.1
+column c = lt_of_lt_of_le c.loop-q-test.true (start-3 c).requires.le_n.1
 
 -- the rows with the x bit
 pub loop-j-init : goal.loop-j-init
@@ -221,58 +217,55 @@ loop-j-init c =
 
 pub overflow_mul-holders : goal.overflow_mul-holders
 overflow_mul-holders c =
-    let I = c.before.before in
-    let L = I.loop-j in
-    let C = I.before.before.before.before in
+    let L = c.loop-j in
+    let C = c.before.before.before.before.before.before in
     let S = (start-3 C) in
-    omega (arith, from-small S.args.n _ L.holders L.j L.invariant.1 I.loop-j-test.true S.pre.0.1)
+    omega (arith, from-small S.args.n _ L.holders L.j L.invariant.1 c.loop-j-test.true S.requires.le_n.1)
 
 pub overflow_add-holders : goal.overflow_add-holders
 overflow_add-holders c =
-    let I = c.before.before in
-    let L = I.loop-j in
-    let C = I.before.before.before.before in
+    let L = c.loop-j in
+    let C = c.before.before.before.before.before.before in
     let S = (start-3 C) in
     omega (
       arith,
-      from-small S.args.n _ L.holders L.j L.invariant.1 I.loop-j-test.true S.pre.0.1,
+      from-small S.args.n _ L.holders L.j L.invariant.1 c.loop-j-test.true S.requires.le_n.1,
       mask_lt (get_or (get_or C.loop-q.rows (L.j - 1) []) 1 0 / 2 ^ C.loop-q.q) 1,
     )
 
 pub loop-j-preserved : goal.loop-j-preserved
 loop-j-preserved c =
-    let I = c.before.before in
-    let L = I.loop-j in
-    let C = I.before.before.before.before in
+    let L = c.loop-j in
+    let C = c.before.before.before.before.before.before in
     let S = (start-3 C) in
     let q = C.loop-q.q in (
       omega arith,
       from_step S.args.n (λ i. bit (get_or (get_or C.loop-q.rows i []) 1 0) q) L.holders L.j
           L.invariant.1
-          I.loop-j-test.true _ (low_bit _ q),
+          c.loop-j-test.true _ (low_bit _ q),
     )
 
 holders : (c : AfterLoop4) (j : ℕ) → bit c.loop-j.holders j
-    ≡ (ltb j (start-3 (turn-4 c)).args.n && bit (get_or (get_or (turn-4 c).before.loop3.rows j []) 1 0) (turn-4
-    c).before.loop3.q)
+    ≡ (ltb j (start-3 (turn-4 c)).args.n && bit (get_or (get_or (turn-4 c).loop-q.rows j []) 1 0) (turn-4
+    c).loop-q.q)
 holders c =
     let C = (turn-4 c) in
     let L = c.loop-j in
-    from_end (start-3 C).args.n (λ i. bit (get_or (get_or C.before.loop3.rows i []) 1 0) C.before.loop3.q)
+    from_end (start-3 C).args.n (λ i. bit (get_or (get_or C.loop-q.rows i []) 1 0) C.loop-q.q)
     L.holders L.j
     L.invariant.1 (omega (arith, c.loop-j-test.false))
 
 -- row i, free, may lend its bit
 ready : (c : Then2) (i : ℕ) → i ≡ count_trailing_zeros 64 (free_in c)
-    → PivotReady (rows_in (turn c)) (turn c).before.loop3.q i c.loop-j.holders
+    → PivotReady (rows_in (turn c)) (turn c).loop-q.q i c.loop-j.holders
 ready c i e =
     let C = (turn c) in
     let S = (start-3 C) in
-    let L = C.before.loop3 in
-    pivot-ready S.args.n L.q S.pre.0.1 C.loop3-test.taken (rows_in C) (loaded3 C)
+    let L = C.loop-q in
+    pivot-ready S.args.n L.q S.requires.le_n.1 C.loop-q-test.true (rows_in C) (loaded3 C)
     c.loop-j.holders
     L.pivots _ (holders c.before) refl i
-    (free-row S.args.n L.q S.pre.0.1 C.loop3-test.taken (rows_in C) (loaded3 C)
+    (free-row S.args.n L.q S.requires.le_n.1 C.loop-q-test.true (rows_in C) (loaded3 C)
     c.loop-j.holders
     L.pivots _ (holders c.before) refl c.if-free-ne0.true i e)
     (λ j. minus-real (bit L.signs j ⊕ half_y (get_or (get_or L.rows j []) 0 0) (get_or (get_or L.rows j []) 1 0)))
@@ -290,56 +283,50 @@ pub has-requires-then-not-has-2 : goal.has-requires-then-not-has-2
 has-requires-then-not-has-2 c = lender c.before.before.before.before.before
 
 lacks : (c : Then3) → bit c.loop-j.holders
-    (turn c.before.before).before.loop3.q ≡
+    (turn c.before.before).loop-q.q ≡
     false
 lacks c = sym c.has-then-free-ne0.ensures ∙ not-true _ c.if-not-has-2.true-raw
 
-lending : (c : AfterSmallest) (k : ℕ) → bit (2 ^ (turn c.before.before.before).before.loop3.q) k ≡ true
+lending : (c : AfterSmallest) (k : ℕ) → bit (2 ^ (turn c.before.before.before).loop-q.q) k ≡ true
     → anticommute 64 ((rows_in (turn c.before.before.before)) k) ((rows_in (turn c.before.before.before))
     c.smallest-i.result) ≡ false
 lending c =
     let D = c.before.before.before in
     let C = (turn D) in
-    lent-commutes (rows_in C) C.before.loop3.q c.smallest-i.result D.loop-j.holders
-    (ready D c.smallest-i.result c.smallest-i.ensures.0) (lacks c.before) (2 ^ C.before.loop3.q) refl
+    lent-commutes (rows_in C) C.loop-q.q c.smallest-i.result D.loop-j.holders
+    (ready D c.smallest-i.result c.smallest-i.ensures.0) (lacks c.before) (2 ^ C.loop-q.q) refl
 
 pub minus_word-requires : goal.minus_word-requires
 minus_word-requires c =
     let M = c.before.before.before in
     let C = (turn M.before.before.before) in
-    let L = C.before.loop3 in
-    alone-commutes L.rows L.signs M.smallest-i.result L.q L.inv.1 (column C) (lending M)
+    let L = C.loop-q in
+    alone-commutes L.rows L.signs M.smallest-i.result L.q L.invariant.1 (column C) (lending M)
 
 -- row q with the bit that it was lent
 lent-long : (c : AfterFlipWhere2) → length (rows-lent c) ≡ 64
 lent-long c =
-    let H = c.before in
-    let O = H.before in
-    let W = O.before in
-    let M = W.before.before.before in
+    let M = c.before.before.before.before.before.before in
     let C = (turn M.before.before.before) in
-    let L = C.before.loop3 in
-    alone-long L.rows L.signs M.smallest-i.result L.q L.inv.1 (column C) (lending M) _
-    c.flip_where-signs-then-not-has-2.result H.has-then-not-has-2.result (is_odd (ones W.minus_word.result)) H.has-then-not-has-2.ensures
-    W.minus_word.ensures
+    let L = C.loop-q in
+    alone-long L.rows L.signs M.smallest-i.result L.q L.invariant.1 (column C) (lending M) _
+    c.flip_where-signs-then-not-has-2.result c.has-then-not-has-2.result (is_odd (ones c.minus_word.result)) c.has-then-not-has-2.ensures
+    c.minus_word.ensures
     refl (λ k. c.flip_where-signs-then-not-has-2.ensures k
-    ∙ ap (λ v. bit L.signs k ⊕ (eqb k L.q && not (beq H.has-then-not-has-2.result v))) O.odd-minus.ensures)
+    ∙ ap (λ v. bit L.signs k ⊕ (eqb k L.q && not (beq c.has-then-not-has-2.result v))) c.odd-minus.ensures)
 
 lent_row : (c : AfterFlipWhere2) (j : ℕ)
     → relative (bit c.flip_where-signs-then-not-has-2.result) (rows-lent c) j
     ≡ (lent-in c.before.before.before.before.before.before.before.before.before) j
 lent_row c j =
-    let H = c.before in
-    let O = H.before in
-    let W = O.before in
-    let M = W.before.before.before in
+    let M = c.before.before.before.before.before.before in
     let C = (turn M.before.before.before) in
-    let L = C.before.loop3 in
-    alone-sheared L.rows L.signs M.smallest-i.result L.q L.inv.1 (column C) (lending M) _
-    c.flip_where-signs-then-not-has-2.result H.has-then-not-has-2.result (is_odd (ones W.minus_word.result)) H.has-then-not-has-2.ensures
-    W.minus_word.ensures
+    let L = C.loop-q in
+    alone-sheared L.rows L.signs M.smallest-i.result L.q L.invariant.1 (column C) (lending M) _
+    c.flip_where-signs-then-not-has-2.result c.has-then-not-has-2.result (is_odd (ones c.minus_word.result)) c.has-then-not-has-2.ensures
+    c.minus_word.ensures
     refl (λ k. c.flip_where-signs-then-not-has-2.ensures k
-    ∙ ap (λ v. bit L.signs k ⊕ (eqb k L.q && not (beq H.has-then-not-has-2.result v))) O.odd-minus.ensures) j
+    ∙ ap (λ v. bit L.signs k ⊕ (eqb k L.q && not (beq c.has-then-not-has-2.result v))) c.odd-minus.ensures) j
     ∙ lent-now (rows_in C) L.q M.smallest-i.result M.loop-j.holders
     (ready M.before.before.before M.smallest-i.result M.smallest-i.ensures.0) (lacks M.before) (2 ^ L.q)
     refl
@@ -368,7 +355,7 @@ long c =
       };
       flip-where2 = w.7;
     }))
-    (λ w. ap length w.2 ∙ (turn c.before.before).before.loop3.inv.1) c.if-not-has-2.branch
+    (λ w. ap length w.2 ∙ (turn c.before.before).loop-q.invariant.1) c.if-not-has-2.branch
 
 lent : (c : Joined3) (j : ℕ) → relative (bit c.if-not-has-2.signs) c.if-not-has-2.rows j
     ≡ (lent-in c.before.before) j
@@ -401,18 +388,18 @@ lent c j =
     })
     j)
     (λ w. ap₂ (λ m v. relative (bit m) v j) w.1 w.2
-    ∙ lent-already (rows_in C) C.before.loop3.q (count_trailing_zeros 64 (free_in D)) D.loop-j.holders
+    ∙ lent-already (rows_in C) C.loop-q.q (count_trailing_zeros 64 (free_in D)) D.loop-j.holders
     (ready D _ refl) (sym c.has-then-free-ne0.ensures ∙ not-false _ w.0.left) j)
     c.if-not-has-2.branch
 
-not_named : (c : AfterPutBit) → bit c.put_bit-rest.result (turn c.before.before.before.before).before.loop3.q
+not_named : (c : AfterPutBit) → bit c.put_bit-rest.result (turn c.before.before.before.before).loop-q.q
     ≡
     false
 not_named c =
     let J = c.before.before in
     let D = J.before.before in
     let C = (turn D) in
-    pivot-not-named (rows_in C) C.before.loop3.q (count_trailing_zeros 64 (free_in D)) D.loop-j.holders
+    pivot-not-named (rows_in C) C.loop-q.q (count_trailing_zeros 64 (free_in D)) D.loop-j.holders
     (ready D _ refl) _ (lent J) c.put_bit-rest.result c.put_bit-rest.ensures
 
 -- the sign of row q is the one that is laid on the rows named
@@ -430,46 +417,40 @@ lent_laid : (c : AfterRowKnown) (j : ℕ) → relative (signs-before c)
     c.if-not-has-2.rows j
     ≡ (lent-in c.before.before.before.before.before.before.before) j
 lent_laid c j =
-    let P = c.before.before.before in
-    let J = P.before.before in
+    let J = c.before.before.before.before.before in
     ap (λ b. relative_row b (get_or J.if-not-has-2.rows j []))
-    (laid_on J.if-not-has-2.signs (signs-laid c) P.put_bit-rest.result c.where_true-signs.result (bit (signs-laid c)
+    (laid_on J.if-not-has-2.signs (signs-laid c) c.put_bit-rest.result c.where_true-signs.result (bit (signs-laid c)
     (column-laid c))
-    (λ k. c.where_true-signs.ensures k ∙ ap (λ v. v && bit P.put_bit-rest.result k) (same_sign c)) refl j)
+    (λ k. c.where_true-signs.ensures k ∙ ap (λ v. v && bit c.put_bit-rest.result k) (same_sign c)) refl j)
     ∙ lent J j
 
 commutes : (c : AfterRowKnown) (j : ℕ) → bit c.put_bit-rest.result j ≡ true
     → anticommute 64 (relative (signs-before c) c.if-not-has-2.rows j) (relative
     (signs-before c) c.if-not-has-2.rows (column-laid c)) ≡ false
 commutes c =
-    let P = c.before.before.before in
-    let J = P.before.before in
-    let D = J.before.before in
+    let D = c.before.before.before.before.before.before.before in
     let C = (turn D) in
-    cleared-commutes (rows_in C) C.before.loop3.q (count_trailing_zeros 64 (free_in D))
+    cleared-commutes (rows_in C) C.loop-q.q (count_trailing_zeros 64 (free_in D))
     D.loop-j.holders
-    (ready D _ refl) _ (lent_laid c) P.put_bit-rest.result P.put_bit-rest.ensures
-    (far-row C.before.loop3.rows (bit C.before.loop3.signs) C.before.loop3.q C.before.loop3.inv.1)
+    (ready D _ refl) _ (lent_laid c) c.put_bit-rest.result c.put_bit-rest.ensures
+    (far-row C.loop-q.rows (bit C.loop-q.signs) C.loop-q.q C.loop-q.invariant.1)
 
 named-far : (c : AfterRowKnown) (t : ℕ) → 64 ≤ t → bit c.put_bit-rest.result t ≡ false
 named-far c t l =
-    let P = c.before.before.before in
-    let J = P.before.before in
-    let D = J.before.before in
+    let D = c.before.before.before.before.before.before.before in
     let C = (turn D) in
-    P.put_bit-rest.ensures t
-    ∙ put_other (bit D.loop-j.holders) C.before.loop3.q false t
+    c.put_bit-rest.ensures t
+    ∙ put_other (bit D.loop-j.holders) C.loop-q.q false t
     (λ p. lt_irrefl 64 (omega (arith, column C, l, p)))
     ∙ (ready D _ refl).holds t
-    ∙ far-row C.before.loop3.rows (bit C.before.loop3.signs) C.before.loop3.q C.before.loop3.inv.1
+    ∙ far-row C.loop-q.rows (bit C.loop-q.signs) C.loop-q.q C.loop-q.invariant.1
     t l
 
 -- ---- row q multiplied into the rows named
 pub loop-rest-init : goal.loop-rest-init
 loop-rest-init c =
-    let P = c.before.before.before.before in
-    let J = P.before.before in
-    shear-start J.if-not-has-2.rows (signs-before c.before) (column-laid c.before) P.put_bit-rest.result (long J)
+    let J = c.before.before.before.before.before.before in
+    shear-start J.if-not-has-2.rows (signs-before c.before) (column-laid c.before) c.put_bit-rest.result (long J)
 
 next : (c : AfterSmallest2) → (c.smallest-i-in-loop-rest.result < 64) × (bit c.loop-rest.rest c.smallest-i-in-loop-rest.result
     ≡
@@ -477,8 +458,8 @@ next : (c : AfterSmallest2) → (c.smallest-i-in-loop-rest.result < 64) × (bit 
 next c =
     let L = c.loop-rest in
     let K = c.before.before.before in
-    let P = K.before.before.before in
-    next_row P.if-not-has-2.rows (signs-before K) (column-laid K) P.put_bit-rest.result L.rows
+    
+    next_row K.if-not-has-2.rows (signs-before K) (column-laid K) K.put_bit-rest.result L.rows
     (without_sign L.signs (bit (signs-laid K) (column-laid K)) L.rest) L.rest L.invariant (named-far K)
     c.loop-rest-test.true
     c.smallest-i-in-loop-rest.ensures.0
@@ -494,9 +475,9 @@ minus_word-minus-requires c =
     let N = c.before.before in
     let L = N.loop-rest in
     let K = N.before.before.before in
-    let P = K.before.before.before in
-    let J = P.before.before in
-    next-commutes J.if-not-has-2.rows (signs-before K) (column-laid K) P.put_bit-rest.result L.rows
+    
+    
+    next-commutes K.if-not-has-2.rows (signs-before K) (column-laid K) K.put_bit-rest.result L.rows
     (without_sign L.signs (bit (signs-laid K) (column-laid K)) L.rest) L.rest N.smallest-i-in-loop-rest.result L.invariant
     (next
     N).1 (next N).0
@@ -525,9 +506,8 @@ fewer : (c : AfterWithoutSmallest) → c.without_smallest-rest.result
     ≡ bit_xor c.loop-rest.rest (2 ^
     c.smallest-i-in-loop-rest.result)
 fewer c =
-    let N = c.before.before.before.before in
-    c.without_smallest-rest.ensures ∙ ap (λ k. bit_xor N.loop-rest.rest (2 ^ k))
-    (sym N.smallest-i-in-loop-rest.ensures.0)
+    c.without_smallest-rest.ensures ∙ ap (λ k. bit_xor c.loop-rest.rest (2 ^ k))
+    (sym c.smallest-i-in-loop-rest.ensures.0)
 
 pub loop-rest-preserved : goal.loop-rest-preserved
 loop-rest-preserved c =
@@ -535,41 +515,41 @@ loop-rest-preserved c =
     let L = N.loop-rest in
     let K = N.before.before.before in
     let P = K.before.before.before in
-    let J = P.before.before in
-    let W = c.before.before.before in
-    shear-step J.if-not-has-2.rows (signs-before K) (column-laid K) P.put_bit-rest.result L.rows
+    
+    
+    shear-step P.if-not-has-2.rows (signs-before K) (column-laid K) P.put_bit-rest.result L.rows
     (without_sign L.signs (bit (signs-laid K) (column-laid K)) L.rest) L.rest N.smallest-i-in-loop-rest.result L.invariant
     (next
     N).1 (next N).0
     (commutes K) _
     (without_sign c.flip_odd-signs.result (bit (signs-laid K) (column-laid K)) c.without_smallest-rest.result) _
-    (is_odd (ones W.minus_word-minus.result)) W.minus_word-minus.ensures refl
+    (is_odd (ones c.minus_word-minus.result)) c.minus_word-minus.ensures refl
     (sign-step L.signs c.flip_odd-signs.result L.rest c.without_smallest-rest.result N.smallest-i-in-loop-rest.result
-    (bit (signs-laid K) (column-laid K)) ((signs-before K) (column-laid K)) (is_odd (ones W.minus_word-minus.result))
+    (bit (signs-laid K) (column-laid K)) ((signs-before K) (column-laid K)) (is_odd (ones c.minus_word-minus.result))
     (sign_kept (signs-laid K) (column-laid K) P.put_bit-rest.result (bit (signs-laid K) (column-laid K)) (not_named P))
     c.flip_odd-signs.ensures (fewer c.before)) (fewer c.before)
 
 -- column q has its pivot
 pivot-done : (c : AfterLoop5) (j : ℕ) → relative (bit c.loop-rest.signs) c.loop-rest.rows j
     ≡ pivot_on 64 (rows_in (turn c.before.before.before.before.before.before.before.before.before)) (turn
-    c.before.before.before.before.before.before.before.before.before).before.loop3.q
+    c.before.before.before.before.before.before.before.before.before).loop-q.q
     (count_trailing_zeros 64 (free_in
     c.before.before.before.before.before.before.before.before.before)) j
 pivot-done c j =
     let L = c.loop-rest in
     let K = c.before.before in
-    let P = K.before.before.before in
-    let J = P.before.before in
-    let D = J.before.before in
+    
+    
+    let D = K.before.before.before.before.before.before.before in
     let C = (turn D) in
     ap (λ b. relative_row b (get_or L.rows j [])) (sym (sign-end L.signs L.rest
     (bit (signs-laid K) (column-laid K))
     c.loop-rest-test.false j))
-    ∙ shear-end J.if-not-has-2.rows (signs-before K) (column-laid K) P.put_bit-rest.result L.rows
+    ∙ shear-end K.if-not-has-2.rows (signs-before K) (column-laid K) K.put_bit-rest.result L.rows
     (without_sign L.signs (bit (signs-laid K) (column-laid K)) L.rest) L.rest L.invariant
     (λ k. ap (λ v. bit v k) c.loop-rest-test.false ∙ zero_bit k) j
-    ∙ cleared (rows_in C) C.before.loop3.q (count_trailing_zeros 64 (free_in D)) D.loop-j.holders
-    (ready D _ refl) _ (lent_laid K) P.put_bit-rest.result P.put_bit-rest.ensures j
+    ∙ cleared (rows_in C) C.loop-q.q (count_trailing_zeros 64 (free_in D)) D.loop-j.holders
+    (ready D _ refl) _ (lent_laid K) K.put_bit-rest.result K.put_bit-rest.ensures j
 
 -- ---- the next column
 pub loop-q-preserved : goal.loop-q-preserved
@@ -578,11 +558,11 @@ loop-q-preserved c =
     let S = (start-3 C) in
     let L = C.loop-q in (
       omega arith,
-      ⊎_elim (λ w. ap length w.15 ∙ w.11.inv.long)
+      ⊎_elim (λ w. ap length w.15 ∙ w.11.invariant.long)
           (⊎_elim (λ w. ap length w.5 ∙ L.invariant.1) (λ w. ap length w.2 ∙ L.invariant.1)) c.if-not-has.branch,
       eliminated-at (sym (add-one L.q))
           (⊎_elim
-          (λ w. column-pivoted S.args.n L.q S.pre.0.1 C.loop-q-test.true (rows_in C) (loaded3 C)
+          (λ w. column-pivoted S.args.n L.q S.requires.le_n.1 C.loop-q-test.true (rows_in C) (loaded3 C)
           w.1.holders
           L.pivots _ (holders (record {
             before = record {
@@ -591,14 +571,14 @@ loop-q-preserved c =
             };
             loop4-test = w.2;
           })) refl _
-          (free-row S.args.n L.q S.pre.0.1 C.loop-q-test.true (rows_in C) (loaded3 C) w.1.holders
+          (free-row S.args.n L.q S.requires.le_n.1 C.loop-q-test.true (rows_in C) (loaded3 C) w.1.holders
           L.pivots _ (holders (record {
             before = record {
               before = record { before = c.before.before; if1 = w.0 };
               loop4 = w.1;
             };
             loop4-test = w.2;
-          })) refl w.3.taken _ refl) _
+          })) refl w.3.true _ refl) _
           (λ j. ap₂ (λ m v. relative (bit m) v j) w.14 w.15 ∙ pivot-done (record {
             before = record {
               before = record {
@@ -641,7 +621,7 @@ loop-q-preserved c =
           (λ j. ap (λ v. bit v j) w.16 ∙ w.13.ensures j) _ _ L.invariant.2)
           (⊎_elim
           (λ w. same-state w.4 w.6 w.5
-          (column-skipped S.args.n L.q S.pre.0.1 C.loop-q-test.true (rows_in C) (loaded3 C)
+          (column-skipped S.args.n L.q S.requires.le_n.1 C.loop-q-test.true (rows_in C) (loaded3 C)
           w.1.holders
           L.pivots _ (holders (record {
             before = record {
@@ -667,58 +647,56 @@ passed c =
 
 pub loop-i-init : goal.loop-i-init
 loop-i-init c =
-    let A = c.before.before.before in
-    rotate-start A.loop-q.rows A.loop-q.signs _ _ A.loop-q.invariant.1
+    rotate-start c.loop-q.rows c.loop-q.signs _ _ c.loop-q.invariant.1
 
 few : (c : Then4) → bit_xor c.mask-all.result
     c.loop-q.pivots < 2 ^ 64
 few c =
     let A = c.before.before.before.before in
-    let K = A.before.before in
+    
     let S = start-2 A in
     let L = A.loop-round in
-    stage-turned S.args.n S.pre.0.1 K.mask-all.result K.mask-all.ensures
-    (relative (bit K.loop-k.signs) S.args.t1) (loaded A) (relative (bit L.signs) L.rows) L.pivots
+    stage-turned S.args.n S.requires.le_n.1 A.mask-all.result A.mask-all.ensures
+    (relative (bit A.loop-k.signs) S.args.rows) (loaded A) (relative (bit L.signs) L.rows) L.pivots
     L.hadamards
     L.round L.invariant.0 c.if-round-eq0.true _ c.loop-q.pivots (passed c.before)
 
 pub loop-i-preserved : goal.loop-i-preserved
 loop-i-preserved c =
-    let I = c.before.before.before.before in
-    let L = I.loop-i in
-    let F = I.before.before in
-    let A = F.before.before in
-    let S = (start-2 A.before.before) in
-    rotate-step A.loop-q.rows A.loop-q.signs S.args.n _ L.rows L.signs L.i L.invariant
-    I.loop-i-test.true
-    S.pre.0.1 (few F) _ _ _ c.odd-minus-in-loop-i.ensures refl c.flip_where-signs-in-loop-i.ensures
+    let L = c.loop-i in
+    let F = c.before.before.before.before.before.before in
+    
+    let S = (start-2 F.before.before.before.before) in
+    rotate-step F.loop-q.rows F.loop-q.signs S.args.n _ L.rows L.signs L.i L.invariant
+    c.loop-i-test.true
+    S.requires.le_n.1 (few F) _ _ _ c.odd-minus-in-loop-i.ensures refl c.flip_where-signs-in-loop-i.ensures
 
 -- ---- the next round
 pub loop-round-preserved : goal.loop-round-preserved
 loop-round-preserved c =
     let A = c.before.before.before.before.before in
-    let K = A.before.before in
+    
     let S = start-2 A in
     let L = A.loop-round in
     let P = c.loop-q in (
       ⊎_elim
-          (λ w. subst (λ h. Stage S.args.n K.mask-all.result (relative (bit K.loop-k.signs) S.args.t1)
+          (λ w. subst (λ h. Stage S.args.n A.mask-all.result (relative (bit A.loop-k.signs) S.args.rows)
           (relative (bit c.if-round-eq0.signs) c.if-round-eq0.rows) P.pivots h (L.round + 1)) (sym w.5)
-          (first_round S.args.n S.pre.0.1 K.mask-all.result K.mask-all.ensures
-          (relative (bit K.loop-k.signs) S.args.t1) (loaded A) (relative (bit L.signs) L.rows) L.pivots
+          (first_round S.args.n S.requires.le_n.1 A.mask-all.result A.mask-all.ensures
+          (relative (bit A.loop-k.signs) S.args.rows) (loaded A) (relative (bit L.signs) L.rows) L.pivots
           L.hadamards
-          L.round L.invariant.0 w.0.taken (relative (bit P.signs) P.rows) P.pivots (passed c.before.before) _
+          L.round L.invariant.0 w.0.true (relative (bit P.signs) P.rows) P.pivots (passed c.before.before) _
           refl
           (relative (bit c.if-round-eq0.signs) c.if-round-eq0.rows)
           (λ j. ap₂ (λ m v. relative (bit m) v j) w.3 w.4
-          ∙ rotate-end P.rows P.signs S.args.n _ w.1.rows w.1.signs w.1.i w.1.inv w.2.left
-          (eliminated-loaded S.args.n S.pre.0.1 (loaded2 c.before.before.before.before)
+          ∙ rotate-end P.rows P.signs S.args.n _ w.1.rows w.1.signs w.1.i w.1.invariant w.2.left
+          (eliminated-loaded S.args.n S.requires.le_n.1 (loaded2 c.before.before.before.before)
           (passed c.before.before)).beyond
           j)))
-          (λ w. subst (λ h. Stage S.args.n K.mask-all.result (relative (bit K.loop-k.signs) S.args.t1)
+          (λ w. subst (λ h. Stage S.args.n A.mask-all.result (relative (bit A.loop-k.signs) S.args.rows)
           (relative (bit c.if-round-eq0.signs) c.if-round-eq0.rows) P.pivots h (L.round + 1)) (sym w.3)
-          (second-round S.args.n S.pre.0.1 K.mask-all.result K.mask-all.ensures
-          (relative (bit K.loop-k.signs) S.args.t1) (loaded A) (relative (bit L.signs) L.rows) L.pivots
+          (second-round S.args.n S.requires.le_n.1 A.mask-all.result A.mask-all.ensures
+          (relative (bit A.loop-k.signs) S.args.rows) (loaded A) (relative (bit L.signs) L.rows) L.pivots
           L.hadamards
           L.round L.invariant.0 c.loop-round-test.true w.0.left
           (relative (bit c.if-round-eq0.signs)
@@ -729,12 +707,12 @@ loop-round-preserved c =
           S.args.n)
           (ap₂ (λ m v. relative (bit m) v) (sym w.1) (sym w.2)) (passed c.before.before))))
           c.if-round-eq0.branch,
-      ⊎_elim (λ w. ap length w.4 ∙ w.1.inv.long) (λ w. ap length w.2 ∙ P.invariant.1) c.if-round-eq0.branch,
+      ⊎_elim (λ w. ap length w.4 ∙ w.1.invariant.long) (λ w. ap length w.2 ∙ P.invariant.1) c.if-round-eq0.branch,
     )
 
 -- ---- the end
 ended : (c : AfterLoop2) → Both (start-2 c.before).args.n c.mask-all.result
-    (relative (bit c.loop-k.signs) (start-2 c.before).args.t1)
+    (relative (bit c.loop-k.signs) (start-2 c.before).args.rows)
     (relative (bit c.loop-round.signs) c.loop-round.rows) c.loop-round.pivots
     c.loop-round.hadamards
 ended c =
@@ -745,38 +723,34 @@ pub returns-then-pivots-all : goal.returns-then-pivots-all
 returns-then-pivots-all c =
     let E = c.before.before in
     let A = E.before in
-    let K = A.before.before in
+    
     let S = start-2 A in
     let L = A.loop-round in
-    let bad = both-left-over S.args.n S.pre.0.1 K.mask-all.result K.mask-all.ensures
-    (relative (bit K.loop-k.signs) S.args.t1) (loaded A) L.rows L.signs L.pivots L.hadamards (ended E)
-    c.if-pivots-all.true in
-    (sym (ap not (ap (dependent S.args.n) (sym (fun_ext (related A))) ∙ bad)), (refl, refl))
+    let bad = both-left-over S.args.n S.requires.le_n.1 A.mask-all.result A.mask-all.ensures
+    (relative (bit A.loop-k.signs) S.args.rows) (loaded A) L.rows L.signs L.pivots L.hadamards (ended E)
+    c.if-pivots-all.true in record { value = sym (ap not (ap (dependent S.args.n) (sym (fun_ext (related A))) ∙ bad)); neighbours_after = refl; codes_after = refl }
 
 pub write_record-requires : goal.write_record-requires
 write_record-requires c =
-    let F = c.before.before in
-    let E = F.before in
+    let E = c.before.before.before in
     let A = E.before in
-    let K = A.before.before in
+    
     let S = start-2 A in
-    let L = A.loop-round in record { n_bound = (S.pre.0.1, S.pre.0.2, S.pre.0.3); by_index = λ j _. end-within S.args.n S.pre.0.1 K.mask-all.result K.mask-all.ensures
-          (relative (bit K.loop-k.signs) S.args.t1) (loaded A) L.rows L.signs L.pivots L.hadamards
+    let L = A.loop-round in record { n_bound = (S.requires.le_n.1, S.requires.le_n.2, S.requires.le_n.3); by_index = λ j _. end-within S.args.n S.requires.le_n.1 A.mask-all.result A.mask-all.ensures
+          (relative (bit A.loop-k.signs) S.args.rows) (loaded A) L.rows L.signs L.pivots L.hadamards
           (ended E)
-          F.if-pivots-all.false j }
+          c.if-pivots-all.false j }
 
 pub returns : goal.returns
 returns c =
-    let W = c.before.before.before.before.before in
-    let F = W.before.before.before in
-    let E = F.before in
+    let E = c.before.before.before.before.before.before.before.before.before in
     let A = E.before in
-    let K = A.before.before in
+    
     let S = start-2 A in
     let L = A.loop-round in
-    let good = both-complete S.args.n S.pre.0.1 K.mask-all.result K.mask-all.ensures
-    (relative (bit K.loop-k.signs) S.args.t1) (loaded A) L.rows L.signs L.pivots L.hadamards (ended E)
-    F.if-pivots-all.false in
-    let r = end-record S.args.n S.pre.0.1 K.mask-all.result K.mask-all.ensures
-    (relative (bit K.loop-k.signs) S.args.t1) (loaded A) L.rows L.signs L.pivots L.hadamards (ended E)
-    F.if-pivots-all.false ∙ ap (reduced S.args.n) (fun_ext (related A)) in record { value = sym (ap not (ap (dependent S.args.n) (sym (fun_ext (related A))) ∙ good)); neighbours_after = W.write_record.ensures.neighbours_after ∙ ap (neighbour_words S.args.n) r; codes_after = W.write_record.ensures.codes_after ∙ ap (code_numbers S.args.n) r }
+    let good = both-complete S.args.n S.requires.le_n.1 A.mask-all.result A.mask-all.ensures
+    (relative (bit A.loop-k.signs) S.args.rows) (loaded A) L.rows L.signs L.pivots L.hadamards (ended E)
+    c.if-pivots-all.false in
+    let r = end-record S.args.n S.requires.le_n.1 A.mask-all.result A.mask-all.ensures
+    (relative (bit A.loop-k.signs) S.args.rows) (loaded A) L.rows L.signs L.pivots L.hadamards (ended E)
+    c.if-pivots-all.false ∙ ap (reduced S.args.n) (fun_ext (related A)) in record { value = sym (ap not (ap (dependent S.args.n) (sym (fun_ext (related A))) ∙ good)); neighbours_after = c.write_record.ensures.neighbours_after ∙ ap (neighbour_words S.args.n) r; codes_after = c.write_record.ensures.codes_after ∙ ap (code_numbers S.args.n) r }

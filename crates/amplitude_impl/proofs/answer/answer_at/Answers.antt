@@ -5,25 +5,18 @@ use Rattle.amplitude_impl.proofs.answer.answer_at.Goals as goal
 
 pub returns-then-not-supports : goal.returns-then-not-supports
 returns-then-not-supports c =
-    let S = c.before.before in
-    let start = S.before.before.before in
-    nothing-there _ _ _ start.requires _ _ S.supports.ensures c.if-not-supports.true-raw
+    nothing-there _ _ _ c.requires _ _ c.supports.ensures c.if-not-supports.true-raw
 
 pub overflow_mul-here : goal.overflow_mul-here
 overflow_mul-here c =
-    let start = c.before.before.before.before.before.before.before in
-    omega (arith, thrice-small _ _ _ start.requires _ _ _ c.turns-there.ensures c.turns-here.ensures)
+    omega (arith, thrice-small _ _ _ c.requires _ _ _ c.turns-there.ensures c.turns-here.ensures)
 
 pub overflow_add-there : goal.overflow_add-there
 overflow_add-there c =
-    let start = c.before.before.before.before.before.before.before in
-    omega (arith, sum-small _ _ _ start.requires _ _ _ c.turns-there.ensures c.turns-here.ensures)
+    omega (arith, sum-small _ _ _ c.requires _ _ _ c.turns-there.ensures c.turns-here.ensures)
 
 pub returns : goal.returns
 returns c =
-    let T = c.before.before in
-    let E = T.before.before in
-    let start = E.before.before.before.before in
-    value_there _ _ _ start.requires _ _ _ T.turns-there.ensures T.turns-here.ensures _
-    E.supports.ensures
-    E.if-not-supports.false-raw _ c.turned.ensures
+    value_there _ _ _ c.requires _ _ _ c.turns-there.ensures c.turns-here.ensures _
+    c.supports.ensures
+    c.if-not-supports.false-raw _ c.turned.ensures

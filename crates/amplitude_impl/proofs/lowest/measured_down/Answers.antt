@@ -10,28 +10,24 @@ loop-q-init c = down-start _ _ c.requires
 
 pub forced-requires : goal.forced-requires
 forced-requires c =
-    let inside = c.before.before in
-    let D = inside.loop-q.invariant in
-    (D.unrefused, next-below _ _ _ _ _ _ D inside.loop-q-test.true)
+    let D = c.loop-q.invariant in
+    (D.unrefused, next-below _ _ _ _ _ _ D c.loop-q-test.true)
 
 pub flip_where-low-requires : goal.flip_where-low-requires
 flip_where-low-requires c =
-    let inside = c.before.before.before.before.before.before.before.before in
     omega (
       arith,
-      inside.loop-q.invariant.upto,
-      inside.loop-q-test.true,
-      unrefused-short _ _ inside.requires,
+      c.loop-q.invariant.upto,
+      c.loop-q-test.true,
+      unrefused-short _ _ c.requires,
     )
 
 pub loop-q-preserved : goal.loop-q-preserved
 loop-q-preserved c =
-    let F = c.before.before.before.before.before.before in
-    let inside = F.before.before.before in
-    let start = inside.requires in
-    down-more _ _ _ _ _ _ inside.loop-q.invariant inside.loop-q-test.true (unrefused-simple _ _ start) _
-    F.forced.ensures.value _ _
-    F.forced.ensures.group_held _ c.flip_where-low.ensures
+    let start = c.requires in
+    down-more _ _ _ _ _ _ c.loop-q.invariant c.loop-q-test.true (unrefused-simple _ _ start) _
+    c.forced.ensures.value _ _
+    c.forced.ensures.group_held _ c.flip_where-low.ensures
 
 pub shape_of-neighbours : goal.shape_of-neighbours
 shape_of-neighbours c = c.loop-q.invariant.long

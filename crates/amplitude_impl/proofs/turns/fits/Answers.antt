@@ -5,6 +5,5 @@ use Rattle.amplitude_impl.proofs.turns.fits.Goals as goal
 
 pub returns : goal.returns
 returns c =
-    let start = c.before.before.before in
-    fits-is start.args.code _ _ _ c.c_bit.ensures c.has.ensures
+    fits-is c.args.code _ _ _ c.c_bit.ensures c.has.ensures
     c.dot_below.ensures

@@ -17,18 +17,15 @@ c_bit-requires c = c.requires.1 c.loop-i.i
 
 pub flip_where-all-requires : goal.flip_where-all-requires
 flip_where-all-requires c =
-    let inside = c.before.before.before in
-    omega (arith, inside.loop-i-test.true, inside.requires.0)
+    omega (arith, c.loop-i-test.true, c.requires.0)
 
 pub loop-i-smaller : goal.loop-i-smaller
 loop-i-smaller c = omega (arith, c.loop-i-test.true)
 
 pub loop-i-preserved : goal.loop-i-preserved
 loop-i-preserved c =
-    let inside = c.before.before.before.before in
-    let start = inside.before.before.before in
-    let codes = start.args.codes.now in
-    found-one (λ q. not (bit_c (codes_of codes q))) _ _ _ _ _ inside.loop-i-test.true inside.loop-i.invariant
+    let codes = c.args.codes.now in
+    found-one (λ q. not (bit_c (codes_of codes q))) _ _ _ _ _ c.loop-i-test.true c.loop-i.invariant
     (ap not c.c_bit.ensures) c.flip_where-all.ensures
 
 pub returns : goal.returns

@@ -17,33 +17,29 @@ loop-j-init c = (omega arith, refl)
 
 pub bounds-codes-j : goal.bounds-codes-j
 bounds-codes-j c =
-    let inside = c.before.before.before in
-    unrefused-place _ _ inside.requires _ inside.loop-j-test.true
+    unrefused-place _ _ c.requires _ c.loop-j-test.true
 
 pub fits-requires : goal.fits-requires
 fits-requires c =
-    let inside = c.before.before.before in
-    let U = inside.requires in
-    (omega (arith, inside.loop-j-test.true, unrefused-short _ _ U), (unrefused-codes _ _ U).1 _)
+    let U = c.requires in
+    (omega (arith, c.loop-j-test.true, unrefused-short _ _ U), (unrefused-codes _ _ U).1 _)
 
 pub returns-then-not-fits : goal.returns-then-not-fits
 returns-then-not-fits c =
-    let inside = c.before.before.before.before.before in
-    let a = inside.args in
+    let a = c.args in
     one-fails (fits_at (held_record (record_in a.neighbours.now a.codes.now)) a.y) _ _
-    c.fits2.ensures _ inside.loop-j-test.true c.if-not-fits.true-raw
+    c.fits2.ensures _ c.loop-j-test.true c.if-not-fits.true-raw
 
 pub loop-j-smaller : goal.loop-j-smaller
 loop-j-smaller c = omega (arith, c.loop-j-test.true)
 
 pub loop-j-preserved : goal.loop-j-preserved
 loop-j-preserved c =
-    let inside = c.before.before.before.before.before in
-    let a = inside.args in
-    let t = inside.loop-j-test.true in (
+    let a = c.args in
+    let t = c.loop-j-test.true in (
       omega arith,
       one_more (fits_at (held_record (record_in a.neighbours.now a.codes.now)) a.y) _ _
-          c.fits2.ensures inside.loop-j.invariant.1 c.if-not-fits.false-raw,
+          c.fits2.ensures c.loop-j.invariant.1 c.if-not-fits.false-raw,
     )
 
 pub returns : goal.returns

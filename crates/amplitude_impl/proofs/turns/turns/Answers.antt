@@ -17,27 +17,21 @@ loop-j-init c = (omega arith, refl)
 
 pub bounds-codes-j : goal.bounds-codes-j
 bounds-codes-j c =
-    let inside = c.before.before.before in
-    unrefused-place _ _ inside.requires _ inside.loop-j-test.true
+    unrefused-place _ _ c.requires _ c.loop-j-test.true
 
 pub turns_of-requires : goal.turns_of-requires
 turns_of-requires c =
-    let inside = c.before.before.before in
-    let K = inside.before.before in
-    let start = K.before.before.before in (
-      omega (arith, inside.loop-j-test.true, unrefused-short _ _ start.requires),
-      chosen-low _ _ start.requires start.args.y _ (_, K.kept.ensures, refl) _ inside.loop-j-test.true,
+    (
+      omega (arith, c.loop-j-test.true, unrefused-short _ _ c.requires),
+      chosen-low _ _ c.requires c.args.y _ (_, c.kept.ensures, refl) _ c.loop-j-test.true,
     )
 
 pub overflow_add-sum : goal.overflow_add-sum
 overflow_add-sum c =
-    let inside = c.before.before.before.before in
-    let K = inside.before.before in
-    let start = K.before.before.before in
     omega (
       arith,
-      turns-small _ _ start.requires start.args.y _ (_, K.kept.ensures, refl) _ _ _
-          inside.loop-j.invariant.1 c.turns_of.ensures,
+      turns-small _ _ c.requires c.args.y _ (_, c.kept.ensures, refl) _ _ _
+          c.loop-j.invariant.1 c.turns_of.ensures,
     )
 
 pub loop-j-smaller : goal.loop-j-smaller
@@ -45,18 +39,13 @@ loop-j-smaller c = omega (arith, c.loop-j-test.true)
 
 pub loop-j-preserved : goal.loop-j-preserved
 loop-j-preserved c =
-    let inside = c.before.before.before.before in
-    let K = inside.before.before in
-    let start = K.before.before.before in
-    let t = inside.loop-j-test.true in (
+    let t = c.loop-j-test.true in (
       omega arith,
-      turns_more _ _ start.requires start.args.y _ (_, K.kept.ensures, refl) _ _ _ inside.loop-j-test.true
-          inside.loop-j.invariant.1 c.turns_of.ensures,
+      turns_more _ _ c.requires c.args.y _ (_, c.kept.ensures, refl) _ _ _ c.loop-j-test.true
+          c.loop-j.invariant.1 c.turns_of.ensures,
     )
 
 pub returns : goal.returns
 returns c =
-    let K = c.before.before.before in
-    let start = K.before.before.before in
-    turns-all _ _ start.requires start.args.y _ (_, K.kept.ensures, refl) _ _ c.loop-j.invariant.0
+    turns-all _ _ c.requires c.args.y _ (_, c.kept.ensures, refl) _ _ c.loop-j.invariant.0
     c.loop-j-test.false c.loop-j.invariant.1

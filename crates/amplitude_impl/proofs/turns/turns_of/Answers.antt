@@ -22,7 +22,5 @@ overflow_add-result-2 c = omega (arith, byte-lt c.dot_below.result)
 
 pub returns : goal.returns
 returns c =
-    let at_has = c.before.before in
-    let start = at_has.before in
-    turns-some start.args.code at_has.has.ensures _ (not-false _ c.if-not-has.false-raw) start.requires.1 _
+    turns-some c.args.code c.has.ensures _ (not-false _ c.if-not-has.false-raw) c.requires.1 _
     c.dot_below.ensures

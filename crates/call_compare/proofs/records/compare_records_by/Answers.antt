@@ -9,91 +9,67 @@ use Rattle.call_compare.proofs.records.compare_records_by.Goals as goal
 
 pub returns-then-pair_count : goal.returns-then-pair_count
 returns-then-pair_count c =
-    let P = c.before.before in
-    let a = P.args in
+    let a = c.args in
     let l : LentRecord = lent_record a.n1 a.neighbours1.now a.codes1.now in
     let m : LentRecord = lent_record a.n2 a.neighbours2.now a.codes2.now in
     refused-2 a.limited l m a.choice.now a.list.now a.count.now
-    (sym P.pair_count.ensures ∙ c.if-pair_count.true)
+    (sym c.pair_count.ensures ∙ c.if-pair_count.true)
 
 pub returns-then-early-ne0 : goal.returns-then-early-ne0
 returns-then-early-ne0 c =
-    let A = c.before.before in
-    let R₂ = A.before in
-    let R₁ = R₂.before in
-    let O₂ = R₁.before in
-    let O₁ = O₂.before in
-    let L = O₁.before in
-    let P = L.before in
-    let a = P.args in
+    let a = c.args in
     let l : LentRecord = lent_record a.n1 a.neighbours1.now a.codes1.now in
     let m : LentRecord = lent_record a.n2 a.neighbours2.now a.codes2.now in
-    compare-refused a.limited l m a.choice.now a.list.now (sym P.pair_count.ensures ∙ L.if-pair_count.false)
-    (ap₂ ◌||◌ O₁.other_than.ensures O₂.other_than-2.ensures) R₁.record_refusal-first.ensures
-    R₂.record_refusal-second.ensures A.earlier-early.ensures a.count.now c.if-early-ne0.true
+    compare-refused a.limited l m a.choice.now a.list.now (sym c.pair_count.ensures ∙ c.if-pair_count.false)
+    (ap₂ ◌||◌ c.other_than.ensures c.other_than-2.ensures) c.record_refusal-first.ensures
+    c.record_refusal-second.ensures c.earlier-early.ensures a.count.now c.if-early-ne0.true
 
 -- behind the checks
 pub slice_bounds-words1-end : goal.slice_bounds-words1-end
 slice_bounds-words1-end E =
-    let A = E.before.before in
-    let R₂ = A.before in
-    let R₁ = R₂.before in
-    let O₂ = R₁.before in
-    let O₁ = O₂.before in
-    let L = O₁.before in
-    let P = L.before in
-    let a = P.args in
+    let a = E.args in
     let l : LentRecord = lent_record a.n1 a.neighbours1.now a.codes1.now in
     let m : LentRecord = lent_record a.n2 a.neighbours2.now a.codes2.now in
-    few a.limited l m a.choice.now a.list.now (sym P.pair_count.ensures ∙ L.if-pair_count.false)
-    (ap₂ ◌||◌ O₁.other_than.ensures O₂.other_than-2.ensures) R₁.record_refusal-first.ensures
-    R₂.record_refusal-second.ensures A.earlier-early.ensures E.if-early-ne0.false
+    few a.limited l m a.choice.now a.list.now (sym E.pair_count.ensures ∙ E.if-pair_count.false)
+    (ap₂ ◌||◌ E.other_than.ensures E.other_than-2.ensures) E.record_refusal-first.ensures
+    E.record_refusal-second.ensures E.earlier-early.ensures E.if-early-ne0.false
 
 pub compare_copies-requires : goal.compare_copies-requires
 compare_copies-requires c =
     let E = c.before.before.before.before.before.before.before.before in
-    let A = E.before in
-    let R₂ = A.before in
-    let R₁ = R₂.before in
-    let O₂ = R₁.before in
-    let O₁ = O₂.before in
-    let L = O₁.before in
-    let P = L.before in
-    let a = P.args in
+    
+    
+    
+    
+    
+    
+    
+    let a = E.args in
     let l : LentRecord = lent_record a.n1 a.neighbours1.now a.codes1.now in
     let m : LentRecord = lent_record a.n2 a.neighbours2.now a.codes2.now in
-    let n-few = few-behind E in record { unrefused = first-unrefused a.limited l m a.choice.now a.list.now (sym P.pair_count.ensures ∙ L.if-pair_count.false)
-          (ap₂ ◌||◌ O₁.other_than.ensures O₂.other_than-2.ensures) R₁.record_refusal-first.ensures
-          R₂.record_refusal-second.ensures A.earlier-early.ensures E.if-early-ne0.false; unrefused_2 = second-unrefused a.limited l m a.choice.now a.list.now (sym P.pair_count.ensures ∙ L.if-pair_count.false)
-            (ap₂ ◌||◌ O₁.other_than.ensures O₂.other_than-2.ensures) R₁.record_refusal-first.ensures
-            R₂.record_refusal-second.ensures A.earlier-early.ensures E.if-early-ne0.false; words1_len = (
+    let n-few = few-behind E in record { unrefused = first-unrefused a.limited l m a.choice.now a.list.now (sym E.pair_count.ensures ∙ E.if-pair_count.false)
+          (ap₂ ◌||◌ E.other_than.ensures E.other_than-2.ensures) E.record_refusal-first.ensures
+          E.record_refusal-second.ensures E.earlier-early.ensures E.if-early-ne0.false; unrefused_2 = second-unrefused a.limited l m a.choice.now a.list.now (sym E.pair_count.ensures ∙ E.if-pair_count.false)
+            (ap₂ ◌||◌ E.other_than.ensures E.other_than-2.ensures) E.record_refusal-first.ensures
+            E.record_refusal-second.ensures E.earlier-early.ensures E.if-early-ne0.false; words1_len = (
           part-long _ _ n-few refl,
           part-long _ _ n-few refl,
           part-long _ _ n-few refl,
           part-long _ _ n-few refl,
-          choice-fits a.limited l m a.choice.now a.list.now (sym P.pair_count.ensures ∙ L.if-pair_count.false)
-              (ap₂ ◌||◌ O₁.other_than.ensures O₂.other_than-2.ensures) R₁.record_refusal-first.ensures
-              R₂.record_refusal-second.ensures A.earlier-early.ensures E.if-early-ne0.false,
-          list-fits a.limited l m a.choice.now a.list.now (sym P.pair_count.ensures ∙ L.if-pair_count.false)
-              (ap₂ ◌||◌ O₁.other_than.ensures O₂.other_than-2.ensures) R₁.record_refusal-first.ensures
-              R₂.record_refusal-second.ensures A.earlier-early.ensures E.if-early-ne0.false,
+          choice-fits a.limited l m a.choice.now a.list.now (sym E.pair_count.ensures ∙ E.if-pair_count.false)
+              (ap₂ ◌||◌ E.other_than.ensures E.other_than-2.ensures) E.record_refusal-first.ensures
+              E.record_refusal-second.ensures E.earlier-early.ensures E.if-early-ne0.false,
+          list-fits a.limited l m a.choice.now a.list.now (sym E.pair_count.ensures ∙ E.if-pair_count.false)
+              (ap₂ ◌||◌ E.other_than.ensures E.other_than-2.ensures) E.record_refusal-first.ensures
+              E.record_refusal-second.ensures E.earlier-early.ensures E.if-early-ne0.false,
         ) }
 
 pub returns : goal.returns
 returns c =
-    let Q = c.before.before.before.before.before.before.before.before.before in
-    let E = Q.before.before.before.before.before.before.before.before in
-    let A = E.before in
-    let R₂ = A.before in
-    let R₁ = R₂.before in
-    let O₂ = R₁.before in
-    let O₁ = O₂.before in
-    let L = O₁.before in
-    let P = L.before in
-    let a = P.args in
+    let a = c.args in
     let l : LentRecord = lent_record a.n1 a.neighbours1.now a.codes1.now in
     let m : LentRecord = lent_record a.n2 a.neighbours2.now a.codes2.now in
-    compare-decided a.limited l m a.choice.now a.list.now (sym P.pair_count.ensures ∙ L.if-pair_count.false)
-    (ap₂ ◌||◌ O₁.other_than.ensures O₂.other_than-2.ensures) R₁.record_refusal-first.ensures
-    R₂.record_refusal-second.ensures A.earlier-early.ensures E.if-early-ne0.false
-    Q.compare_copies.ensures
+    compare-decided a.limited l m a.choice.now a.list.now (sym c.pair_count.ensures ∙ c.if-pair_count.false)
+    (ap₂ ◌||◌ c.other_than.ensures c.other_than-2.ensures) c.record_refusal-first.ensures
+    c.record_refusal-second.ensures c.earlier-early.ensures c.if-early-ne0.false
+    c.compare_copies.ensures

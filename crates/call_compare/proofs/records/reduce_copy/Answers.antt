@@ -6,18 +6,13 @@ use Rattle.call_compare.proofs.RecordPairs.{copied-reduced}
 use Rattle.call_compare.proofs.records.reduce_copy.Goals as goal
 
 pub copy_record-requires : goal.copy_record-requires
-copy_record-requires c = let S = c.before.before.before.before.before.before.before in record { codes_len = unrefused-long _ _ S.requires.unrefused; words_len = S.requires.words_len }
+copy_record-requires c = record { codes_len = unrefused-long _ _ c.requires.unrefused; words_len = c.requires.words_len }
 
 pub normalise-requires : goal.normalise-requires
 normalise-requires c =
-    let C = c.before.before.before.before.before.before.before in
-    let S = C.before.before.before.before.before.before.before in
-    let E = C.copy_record.ensures in
-    subst Unrefused (sym (ap₂ record_in E.0 E.1)) S.requires.unrefused
+    let E = c.copy_record.ensures in
+    subst Unrefused (sym (ap₂ record_in E.0 E.1)) c.requires.unrefused
 
 pub returns : goal.returns
 returns c =
-    let N = c.before.before.before.before.before in
-    let C = N.before.before.before.before.before.before.before in
-    let S = C.before.before.before.before.before.before.before in
-    copied-reduced _ _ S.requires.unrefused _ _ C.copy_record.ensures _ _ N.normalise.ensures
+    copied-reduced _ _ c.requires.unrefused _ _ c.copy_record.ensures _ _ c.normalise.ensures

@@ -30,15 +30,13 @@ lent S = used_record S.args.n S.args.neighbours.now S.args.codes.now S.args.used
 paired : (D : ElseEarlyNe0) → let S = D.before.before.before.before.before.before in
     first_fitting (pair_lines (lent S).held S.args.j S.args.k) ≡ 0
 paired D =
-    let E = D.before in
-    let S = E.before.before.before.before.before in
-    pair-before (lent S) S.args.j S.args.k E.in_place_refusal-early.ensures D.if-early-ne0.false
+    let S = D.before.before.before.before.before in
+    pair-before (lent S) S.args.j S.args.k D.in_place_refusal-early.ensures D.if-early-ne0.false
 
 pub returns-then-early-ne0 : goal.returns-then-early-ne0
 returns-then-early-ne0 c =
-    let E = c.before in
-    let S = E.before.before.before.before.before in
-    refused _ (pair-refused (lent S) S.args.j S.args.k E.in_place_refusal-early.ensures c.if-early-ne0.true)
+    let S = c.before.before.before.before.before in
+    refused _ (pair-refused (lent S) S.args.j S.args.k c.in_place_refusal-early.ensures c.if-early-ne0.true)
     c.if-early-ne0.true (refl, (refl, tt))
 
 pub offset_bounds-neighbours-j : goal.offset_bounds-neighbours-j
@@ -59,30 +57,20 @@ has-requires c =
 
 pub returns-then-not-has : goal.returns-then-not-has
 returns-then-not-has c =
-    let H = c.before.before in
-    let D = H.before.before in
-    let E = D.before in
-    let S = E.before.before.before.before.before in
-    refused _ (no-edge-refuses (lent S) S.args.j S.args.k E.in_place_refusal-early.ensures D.if-early-ne0.false _
-    H.has.ensures c.if-not-has.true-raw) (λ e. absurd (omega (arith, e))) (refl, (refl, tt))
+    let S = c.before.before.before.before.before.before.before.before.before in
+    refused _ (no-edge-refuses (lent S) S.args.j S.args.k c.in_place_refusal-early.ensures c.if-early-ne0.false _
+    c.has.ensures c.if-not-has.true-raw) (λ e. absurd (omega (arith, e))) (refl, (refl, tt))
 
 pub pivot_record-requires : goal.pivot_record-requires
 pivot_record-requires c =
-    let F = c.before.before in
-    let H = F.before in
-    let D = H.before.before in
+    let D = c.before.before.before.before.before in
     let S = D.before.before.before.before.before.before in
-    let ready = pair-ready (lent S).held S.args.j S.args.k (paired D) in record { unrefused = ready.0; j_in_bounds = ready.1; k_value = sym H.has.ensures ∙ not-false _ F.if-not-has.false-raw }
+    let ready = pair-ready (lent S).held S.args.j S.args.k (paired D) in record { unrefused = ready.0; j_in_bounds = ready.1; k_value = sym c.has.ensures ∙ not-false _ c.if-not-has.false-raw }
 
 pub returns : goal.returns
 returns c =
-    let G = c.before.before.before.before.before in
-    let F = G.before.before.before in
-    let H = F.before in
-    let D = H.before.before in
-    let E = D.before in
-    let S = E.before.before.before.before.before in
+    let S = c.before.before.before.before.before.before.before.before.before.before.before.before.before.before.before.before in
     in-place-done (lent S) (pivot_of S.args.j S.args.k)
-    (edge-accepts (lent S) S.args.j S.args.k E.in_place_refusal-early.ensures D.if-early-ne0.false _ H.has.ensures
-    F.if-not-has.false-raw)
-    refl G.pivot_record.ensures.neighbours G.pivot_record.ensures.numbers
+    (edge-accepts (lent S) S.args.j S.args.k c.in_place_refusal-early.ensures c.if-early-ne0.false _ c.has.ensures
+    c.if-not-has.false-raw)
+    refl c.pivot_record.ensures.neighbours c.pivot_record.ensures.numbers

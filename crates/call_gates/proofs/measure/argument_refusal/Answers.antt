@@ -18,8 +18,7 @@ lent S = used_record S.args.n S.args.neighbours.now S.args.codes.now S.args.used
 
 pub returns : goal.returns
 returns c =
-    let I = c.before.before in
-    let S = I.before.before.before in
+    let S = c.before.before.before.before.before in
     let a = S.args in
     named-as (lent S) (leb 2 a.outcome || (eqb a.pauli 0 || leb 4 a.pauli)) (leb a.n a.qubit)
-    c.in_place_refusal.ensures I.bit_at-sixteen.ensures
+    c.in_place_refusal.ensures c.bit_at-sixteen.ensures

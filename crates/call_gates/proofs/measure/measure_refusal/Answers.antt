@@ -19,34 +19,28 @@ lent S = used_record S.args.n S.args.neighbours.now S.args.codes.now S.args.used
 
 pub returns-then-early-ne0 : goal.returns-then-early-ne0
 returns-then-early-ne0 c =
-    let E = c.before.before in
-    let S = E.before.before.before in
+    let S = c.before.before.before.before.before in
     let a = S.args in
-    arguments-refuse (lent S) a.pauli a.qubit a.outcome E.argument_refusal-early.ensures c.if-early-ne0.true
+    arguments-refuse (lent S) a.pauli a.qubit a.outcome c.argument_refusal-early.ensures c.if-early-ne0.true
 
 pub contradicted-requires : goal.contradicted-requires
 contradicted-requires c =
-    let E = c.before.before in
-    let S = E.before.before.before in
+    let S = c.before.before.before.before.before in
     let a = S.args in let whole = measure-ready (lent S).held a.pauli a.qubit a.outcome
-    (arguments-before (lent S) a.pauli a.qubit a.outcome (sym E.argument_refusal-early.ensures ∙ c.if-early-ne0.false)) in record { unrefused = whole.0; le_pauli = whole.1 }
+    (arguments-before (lent S) a.pauli a.qubit a.outcome (sym c.argument_refusal-early.ensures ∙ c.if-early-ne0.false)) in record { unrefused = whole.0; le_pauli = whole.1 }
 
 pub returns-then-contradicted : goal.returns-then-contradicted
 returns-then-contradicted c =
-    let D = c.before.before.before in
-    let E = D.before in
-    let S = E.before.before.before in
+    let S = c.before.before.before.before.before.before.before in
     let a = S.args in
-    then-14 (lent S) a.pauli a.qubit a.outcome E.argument_refusal-early.ensures D.if-early-ne0.false
+    then-14 (lent S) a.pauli a.qubit a.outcome c.argument_refusal-early.ensures c.if-early-ne0.false
     c.contradicted.ensures
     c.if-contradicted.true
 
 pub returns-else-contradicted : goal.returns-else-contradicted
 returns-else-contradicted c =
-    let D = c.before.before.before in
-    let E = D.before in
-    let S = E.before.before.before in
+    let S = c.before.before.before.before.before.before.before in
     let a = S.args in
-    then-none (lent S) a.pauli a.qubit a.outcome E.argument_refusal-early.ensures D.if-early-ne0.false
+    then-none (lent S) a.pauli a.qubit a.outcome c.argument_refusal-early.ensures c.if-early-ne0.false
     c.contradicted.ensures
     c.if-contradicted.false

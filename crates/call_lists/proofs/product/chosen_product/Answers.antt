@@ -20,25 +20,23 @@ has-requires c =
 
 pub row_at-row-requires : goal.row_at-row-requires
 row_at-row-requires c =
-    let S = c.before.before.before.before.before.before.before.before in
-    let a = S.args in
-    let l : GeneratorList = record { n = a.n; signs = a.signs.now; z = a.z.now; x = a.x.now } in
-    row_read l a.chosen S.requires c.loop-j.j c.loop-j-test.true
+    let a = c.args in
+    let l : GeneratorList = record { n = a.n; signs = a.signs.now; z = a.z.now; x = a.x.now } in let whole = row_read l a.chosen c.requires c.loop-j.j c.loop-j-test.true in record { j_in_bounds = whole.0; j_bound = whole.1 }
 
 pub loop-j-preserved : goal.loop-j-preserved
 loop-j-preserved c =
     let L = c.loop-j in
-    let S = c.before.before.before.before.before.before.before.before in
-    let a = S.args in
+    
+    let a = c.args in
     let l : GeneratorList = record { n = a.n; signs = a.signs.now; z = a.z.now; x = a.x.now } in
     let test = c.has.ensures in
     let more = c.loop-j-test.true in
     ⊎_elim
     (λ k. subst (PartProduct l a.chosen (L.j + 1)) (sym k.3)
-    (part-on l a.chosen S.requires L.j L.product L.invariant more _ _ (sym test ∙ k.0.taken) k.1.ensures
+    (part-on l a.chosen c.requires L.j L.product L.invariant more _ _ (sym test ∙ k.0.true) k.1.ensures
     k.2.ensures))
     (λ k. subst (PartProduct l a.chosen (L.j + 1)) (sym k.1)
-    (part_off l a.chosen S.requires L.j L.product L.invariant more (sym test ∙ k.0.left)))
+    (part_off l a.chosen c.requires L.j L.product L.invariant more (sym test ∙ k.0.left)))
     c.if-has.branch
 
 pub returns : goal.returns

@@ -18,10 +18,8 @@ overflow_cast-phase c = omega (arith, c.chosen_product-row.ensures.1)
 
 pub returns : goal.returns
 returns c =
-    let P = c.before.before in
-    let E = P.before.before in
-    let a = E.args in
+    let a = c.args in
     let l : GeneratorList = record { n = a.n; signs = a.signs.now; z = a.z.now; x = a.x.now } in
-    product-accepted l a.chosen (sym E.product_refusal-number.ensures ∙ P.if-number-ne0.false)
-    P.chosen_product-row.result P.chosen_product-row.ensures.0
-    P.chosen_product-row.ensures.1
+    product-accepted l a.chosen (sym c.product_refusal-number.ensures ∙ c.if-number-ne0.false)
+    c.chosen_product-row.result c.chosen_product-row.ensures.0
+    c.chosen_product-row.ensures.1

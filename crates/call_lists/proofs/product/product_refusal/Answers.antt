@@ -6,39 +6,32 @@ use Rattle.call_lists.proofs.product.product_refusal.Goals as goal
 
 pub returns-then-number-eq2 : goal.returns-then-number-eq2
 returns-then-number-eq2 c =
-    let E = c.before.before in
-    let a = E.args in
+    let a = c.args in
     let l : GeneratorList = record { n = a.n; signs = a.signs.now; z = a.z.now; x = a.x.now } in
-    number-2 l a.chosen _ E.form_refusal-number.ensures c.if-number-eq2.true
+    number-2 l a.chosen _ c.form_refusal-number.ensures c.if-number-eq2.true
 
 pub returns-then-number-eq4 : goal.returns-then-number-eq4
 returns-then-number-eq4 c =
-    let E = c.before.before.before in
-    let a = E.args in
+    let a = c.args in
     let l : GeneratorList = record { n = a.n; signs = a.signs.now; z = a.z.now; x = a.x.now } in
-    number-4 l a.chosen _ E.form_refusal-number.ensures c.if-number-eq2.false c.if-number-eq4.true
+    number-4 l a.chosen _ c.form_refusal-number.ensures c.if-number-eq2.false c.if-number-eq4.true
 
 pub stray-requires : goal.stray-requires
 stray-requires c =
-    let E = c.before.before.before in
-    let a = E.args in
+    let a = c.args in
     let l : GeneratorList = record { n = a.n; signs = a.signs.now; z = a.z.now; x = a.x.now } in
-    word-tested l a.chosen _ E.form_refusal-number.ensures c.if-number-eq2.false
+    word-tested l a.chosen _ c.form_refusal-number.ensures c.if-number-eq2.false
 
 pub returns-then-stray : goal.returns-then-stray
 returns-then-stray c =
-    let T = c.before.before.before in
-    let E = T.before.before in
-    let a = E.args in
+    let a = c.args in
     let l : GeneratorList = record { n = a.n; signs = a.signs.now; z = a.z.now; x = a.x.now } in
-    word-strays l a.chosen _ E.form_refusal-number.ensures T.if-number-eq2.false T.if-number-eq4.false
+    word-strays l a.chosen _ c.form_refusal-number.ensures c.if-number-eq2.false c.if-number-eq4.false
     (says c.stray.ensures c.if-stray.true)
 
 pub returns : goal.returns
 returns c =
-    let T = c.before.before.before in
-    let E = T.before.before in
-    let a = E.args in
+    let a = c.args in
     let l : GeneratorList = record { n = a.n; signs = a.signs.now; z = a.z.now; x = a.x.now } in
-    word_good l a.chosen _ E.form_refusal-number.ensures
+    word_good l a.chosen _ c.form_refusal-number.ensures
     (says c.stray.ensures c.if-stray.false)

@@ -3,4 +3,4 @@ use Rattle.call_lists.proofs.PartProducts.{two-turns}
 use Rattle.call_lists.proofs.product.row_at.Goals as goal
 
 pub returns : goal.returns
-returns c = let S = c.before.before.before.before in two-turns _ _ _ S.requires.j_bound
+returns c = two-turns _ _ _ c.requires.j_bound

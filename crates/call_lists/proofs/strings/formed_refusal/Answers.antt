@@ -22,37 +22,24 @@ returns-then-not-string_form c = first-is (here (ap not (sym c.string_form.ensur
 
 pub returns-then-bad_count : goal.returns-then-bad_count
 returns-then-bad_count c =
-    let n = c.before.before in
-    let s = n.before.before in
-    let a = s.before.before.before.before.before in
-    let lines = a.requires (sym s.string_form.ensures ∙ not-false _ n.if-not-string_form.false-raw) in
-    first-is (later (ap not (sym s.string_form.ensures) ∙ n.if-not-string_form.false-raw)
-    (here (ap bad_count (sym lines) ∙ sym n.bad_count.ensures ∙ c.if-bad_count.true)))
+    let lines = c.requires (sym c.string_form.ensures ∙ not-false _ c.if-not-string_form.false-raw) in
+    first-is (later (ap not (sym c.string_form.ensures) ∙ c.if-not-string_form.false-raw)
+    (here (ap bad_count (sym lines) ∙ sym c.bad_count.ensures ∙ c.if-bad_count.true)))
 
 pub returns-then-other_than : goal.returns-then-other_than
 returns-then-other_than c =
-    let x = c.before.before in
-    let e = x.before.before.before in
-    let n = e.before in
-    let s = n.before.before in
-    let a = s.before.before.before.before.before in
-    let lines = a.requires (sym s.string_form.ensures ∙ not-false _ n.if-not-string_form.false-raw) in
-    first-is (later (ap not (sym s.string_form.ensures) ∙ n.if-not-string_form.false-raw)
-    (later (ap bad_count (sym lines) ∙ sym n.bad_count.ensures ∙ e.if-bad_count.false)
-    (here (fitting a.args.signs.now a.args.z.now a.args.x.now lines
-    x.other_than.ensures x.other_than-2.ensures
-    x.other_than-3.ensures ∙ c.if-other_than.true))))
+    let lines = c.requires (sym c.string_form.ensures ∙ not-false _ c.if-not-string_form.false-raw) in
+    first-is (later (ap not (sym c.string_form.ensures) ∙ c.if-not-string_form.false-raw)
+    (later (ap bad_count (sym lines) ∙ sym c.bad_count.ensures ∙ c.if-bad_count.false)
+    (here (fitting c.args.signs.now c.args.z.now c.args.x.now lines
+    c.other_than.ensures c.other_than-2.ensures
+    c.other_than-3.ensures ∙ c.if-other_than.true))))
 
 pub returns : goal.returns
 returns c =
-    let x = c.before.before in
-    let e = x.before.before.before in
-    let n = e.before in
-    let s = n.before.before in
-    let a = s.before.before.before.before.before in
-    let lines = a.requires (sym s.string_form.ensures ∙ not-false _ n.if-not-string_form.false-raw) in
-    first-is (later (ap not (sym s.string_form.ensures) ∙ n.if-not-string_form.false-raw)
-    (later (ap bad_count (sym lines) ∙ sym n.bad_count.ensures ∙ e.if-bad_count.false)
-    (later (fitting a.args.signs.now a.args.z.now a.args.x.now lines
-    x.other_than.ensures x.other_than-2.ensures
-    x.other_than-3.ensures ∙ c.if-other_than.false) none)))
+    let lines = c.requires (sym c.string_form.ensures ∙ not-false _ c.if-not-string_form.false-raw) in
+    first-is (later (ap not (sym c.string_form.ensures) ∙ c.if-not-string_form.false-raw)
+    (later (ap bad_count (sym lines) ∙ sym c.bad_count.ensures ∙ c.if-bad_count.false)
+    (later (fitting c.args.signs.now c.args.z.now c.args.x.now lines
+    c.other_than.ensures c.other_than-2.ensures
+    c.other_than-3.ensures ∙ c.if-other_than.false) none)))

@@ -5,19 +5,15 @@ use Rattle.call_lists.proofs.strings.read_strings.Goals as goal
 
 pub returns-then-early-ne0 : goal.returns-then-early-ne0
 returns-then-early-ne0 c =
-    let f = c.before.before in
-    let n = f.before.before.before.before in
-    let a = n.args in
-    read-refused n.args.text.now n.args.signs.now n.args.z.now n.args.x.now _ n.letter-count.ensures
-    f.formed_refusal-early.ensures c.if-early-ne0.true
+    let a = c.args in
+    read-refused c.args.text.now c.args.signs.now c.args.z.now c.args.x.now _ c.letter-count.ensures
+    c.formed_refusal-early.ensures c.if-early-ne0.true
 
 pub read_rows-list-requires : goal.read_rows-list-requires
 read_rows-list-requires c =
-    let f = c.before.before in
-    let n = f.before.before.before.before in
-    let a = n.args in
-    let F = read-formed n.args.text.now n.args.signs.now n.args.z.now n.args.x.now _ n.letter-count.ensures
-    f.formed_refusal-early.ensures c.if-early-ne0.false in
+    let a = c.args in
+    let F = read-formed c.args.text.now c.args.signs.now c.args.z.now c.args.x.now _ c.letter-count.ensures
+    c.formed_refusal-early.ensures c.if-early-ne0.false in
     (F.few, F.size, F.fit)
 
 pub slice_bounds-own_signs-end : goal.slice_bounds-own_signs-end
@@ -40,61 +36,38 @@ slice_bounds-check-end-3 c = part_of _ _ _ c.read_rows-list.ensures.x_value
 
 pub returns-then-number-ne0 : goal.returns-then-number-ne0
 returns-then-number-ne0 c =
-    let k = c.before.before in
-    let r = k.before.before.before.before.before.before.before in
-    let f = r.before.before in
-    let n = f.before.before.before.before in
-    let a = n.args in
-    read-judged n.args.text.now n.args.signs.now n.args.z.now n.args.x.now _ n.letter-count.ensures
-    f.formed_refusal-early.ensures r.if-early-ne0.false _ _ _ r.read_rows-list.ensures.signs_value
-    r.read_rows-list.ensures.z_value r.read_rows-list.ensures.x_value
-    k.check-number.ensures c.if-number-ne0.true
+    let a = c.args in
+    read-judged c.args.text.now c.args.signs.now c.args.z.now c.args.x.now _ c.letter-count.ensures
+    c.formed_refusal-early.ensures c.if-early-ne0.false _ _ _ c.read_rows-list.ensures.signs_value
+    c.read_rows-list.ensures.z_value c.read_rows-list.ensures.x_value
+    c.check-number.ensures c.if-number-ne0.true
 
 pub copy_bytes-requires : goal.copy_bytes-requires
 copy_bytes-requires c =
-    let k = c.before.before.before in
-    let r = k.before.before.before.before.before.before.before in
-    let f = r.before.before in
-    let n = f.before.before.before.before in
-    let a = n.args in
-    let F = read-formed n.args.text.now n.args.signs.now n.args.z.now n.args.x.now _ n.letter-count.ensures
-    f.formed_refusal-early.ensures r.if-early-ne0.false in
+    let a = c.args in
+    let F = read-formed c.args.text.now c.args.signs.now c.args.z.now c.args.x.now _ c.letter-count.ensures
+    c.formed_refusal-early.ensures c.if-early-ne0.false in
     omega (arith, F.few, F.signs-fit)
 
 pub copy_words-requires : goal.copy_words-requires
 copy_words-requires c =
-    let k = c.before.before.before.before.before.before.before in
-    let r = k.before.before.before.before.before.before.before in
-    let f = r.before.before in
-    let n = f.before.before.before.before in
-    let a = n.args in
-    let F = read-formed n.args.text.now n.args.signs.now n.args.z.now n.args.x.now _ n.letter-count.ensures
-    f.formed_refusal-early.ensures r.if-early-ne0.false in
+    let a = c.args in
+    let F = read-formed c.args.text.now c.args.signs.now c.args.z.now c.args.x.now _ c.letter-count.ensures
+    c.formed_refusal-early.ensures c.if-early-ne0.false in
     omega (arith, F.few, F.z-fit)
 
 pub copy_words-requires-2 : goal.copy_words-requires-2
 copy_words-requires-2 c =
-    let k = c.before.before.before.before.before.before.before.before.before.before.before in
-    let r = k.before.before.before.before.before.before.before in
-    let f = r.before.before in
-    let n = f.before.before.before.before in
-    let a = n.args in
-    let F = read-formed n.args.text.now n.args.signs.now n.args.z.now n.args.x.now _ n.letter-count.ensures
-    f.formed_refusal-early.ensures r.if-early-ne0.false in
+    let a = c.args in
+    let F = read-formed c.args.text.now c.args.signs.now c.args.z.now c.args.x.now _ c.letter-count.ensures
+    c.formed_refusal-early.ensures c.if-early-ne0.false in
     omega (arith, F.few, F.x-fit)
 
 pub returns : goal.returns
 returns c =
-    let px = c.before.before.before in
-    let pz = px.before.before.before.before in
-    let ps = pz.before.before.before.before in
-    let k = ps.before.before.before in
-    let r = k.before.before.before.before.before.before.before in
-    let f = r.before.before in
-    let n = f.before.before.before.before in
-    let a = n.args in
-    read_done n.args.text.now n.args.signs.now n.args.z.now n.args.x.now _ n.letter-count.ensures
-    f.formed_refusal-early.ensures r.if-early-ne0.false _ _ _ r.read_rows-list.ensures.signs_value
-    r.read_rows-list.ensures.z_value r.read_rows-list.ensures.x_value
-    k.check-number.ensures ps.if-number-ne0.false ps.copy_bytes.ensures pz.copy_words.ensures
-    px.copy_words-2.ensures
+    let a = c.args in
+    read_done c.args.text.now c.args.signs.now c.args.z.now c.args.x.now _ c.letter-count.ensures
+    c.formed_refusal-early.ensures c.if-early-ne0.false _ _ _ c.read_rows-list.ensures.signs_value
+    c.read_rows-list.ensures.z_value c.read_rows-list.ensures.x_value
+    c.check-number.ensures c.if-number-ne0.false c.copy_bytes.ensures c.copy_words.ensures
+    c.copy_words-2.ensures

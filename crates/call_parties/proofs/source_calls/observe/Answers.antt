@@ -31,24 +31,22 @@ number : (E : AfterPartyRefusalEarly) → let S = E.before.before.before.before.
     (observed_six S.args.pauli S.args.bit) (outsider (in_party S.args.word S.args.party) S.args.n
     S.args.qubit))
 number E =
-    let O = E.before.before.before.before in
-    let S = O.before.before.before in
+    let S = E.before.before.before.before.before.before in
     other-as S.args.word S.args.party (lent S) (observed_six S.args.pauli S.args.bit)
-    E.party_refusal-early.ensures O.outside.ensures
+    E.party_refusal-early.ensures E.outside.ensures
 
 pub returns-then-early-ne0 : goal.returns-then-early-ne0
 returns-then-early-ne0 c =
     let E = c.before in
-    let O = E.before.before.before.before in
-    let S = O.before.before.before in
+    
+    let S = E.before.before.before.before.before.before in
     let a = S.args in
     refused _ (observe-early a.word a.party (lent S) a.pauli a.qubit a.bit (number E) c.if-early-ne0.true)
     c.if-early-ne0.true (refl, (refl, (refl, (refl, (refl, tt)))))
 
 pub observe_within-requires : goal.observe_within-requires
 observe_within-requires c =
-    let D = c.before.before.before.before.before.before.before.before in
-    let E = D.before in
-    let O = E.before.before.before.before in
-    let S = O.before.before.before in
-    let a = S.args in record { admitted = observe-admitted a.word a.party (lent S) a.pauli a.qubit a.bit (number E) D.if-early-ne0.false; words_len = (refl {a = 64}, refl {a = 64}) }
+    let E = c.before.before.before.before.before.before.before.before.before in
+    
+    let S = E.before.before.before.before.before.before in
+    let a = S.args in record { admitted = observe-admitted a.word a.party (lent S) a.pauli a.qubit a.bit (number E) c.if-early-ne0.false; words_len = (refl {a = 64}, refl {a = 64}) }

@@ -34,14 +34,13 @@ number : (E : AfterPartyRefusalEarly) → let S = at E in
     (not (used_code S.args.code))
     (outsider (in_party S.args.word S.args.party) S.args.n S.args.qubit))
 number E =
-    let N = E.before.before.before.before in
     let S = at E in
     let a = S.args in
     other-as a.word a.party (lent S) (not (used_code a.code))
     (E.party_refusal-early.ensures
-    ∙ ap (λ s. first_fitting (before_eight a.word a.party (lent S) s N.outside.result))
-    N.no-photon.ensures)
-    N.outside.ensures
+    ∙ ap (λ s. first_fitting (before_eight a.word a.party (lent S) s E.outside.result))
+    E.no-photon.ensures)
+    E.outside.ensures
 
 pub returns-then-early-ne0 : goal.returns-then-early-ne0
 returns-then-early-ne0 c =
@@ -53,19 +52,16 @@ returns-then-early-ne0 c =
 
 pub renew_known-requires : goal.renew_known-requires
 renew_known-requires c =
-    let D = c.before.before.before.before in
-    let S = at D.before in
+    let S = at c.before.before.before.before.before in
     let a = S.args in
     record {
-      no_line = (renew-admitted a.word a.party (lent S) a.qubit a.code (number D.before) D.if-early-ne0.false
+      no_line = (renew-admitted a.word a.party (lent S) a.qubit a.code (number c.before.before.before.before.before) c.if-early-ne0.false
           ).apart.passes;
     }
 
 pub returns : goal.returns
 returns c =
-    let R = c.before.before.before.before.before in
-    let D = R.before.before.before.before in
-    let S = at D.before in
+    let S = at c.before.before.before.before.before.before.before.before.before.before in
     let a = S.args in
-    renew-whole a.word a.party (lent S) a.qubit a.code (number D.before) D.if-early-ne0.false
-    R.renew_known.ensures
+    renew-whole a.word a.party (lent S) a.qubit a.code (number c.before.before.before.before.before.before.before.before.before.before) c.if-early-ne0.false
+    c.renew_known.ensures

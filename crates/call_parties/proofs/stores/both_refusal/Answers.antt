@@ -5,12 +5,9 @@ use Rattle.call_parties.proofs.stores.both_refusal.Goals as goal
 
 pub returns : goal.returns
 returns c =
-    let H = c.before.before in
-    let U = H.before in
-    let S = U.before.before.before.before.before.before in
-    both-number S.args.word S.args.party (used_record S.args.n S.args.neighbours.now
-    S.args.codes.now S.args.used) (record {
-      heads = S.args.heads.now;
-      neighbours = S.args.held_neighbours.now;
-      codes = S.args.held_codes.now;
-    }) _ _ _ U.used_refusal-own.ensures H.own_refusal-held.ensures c.earlier.ensures
+    both-number c.args.word c.args.party (used_record c.args.n c.args.neighbours.now
+    c.args.codes.now c.args.used) (record {
+      heads = c.args.heads.now;
+      neighbours = c.args.held_neighbours.now;
+      codes = c.args.held_codes.now;
+    }) _ _ _ c.used_refusal-own.ensures c.own_refusal-held.ensures c.earlier.ensures

@@ -21,48 +21,32 @@ store S = record { heads = S.args.heads.now; neighbours = S.args.held_neighbours
 
 pub returns-then-early-ne0 : goal.returns-then-early-ne0
 returns-then-early-ne0 c =
-    let R = c.before.before in
-    let S = R.before.before.before.before.before.before.before.before.before in
+    let S = c.before.before.before.before.before.before.before.before.before.before in
     return_refused S.args.word S.args.party (lent S) S.args.name (store S) _
-    R.shared_refusal-early.ensures c.if-early-ne0.true
+    c.shared_refusal-early.ensures c.if-early-ne0.true
 
 pub own_find-place-requires : goal.own_find-place-requires
 own_find-place-requires c =
-    let R = c.before.before in
-    let S = R.before.before.before.before.before.before.before.before.before in
+    let S = c.before.before.before.before.before.before.before.before.before.before in
     search-fits S.args.word S.args.party (lent S) S.args.name (store S) _
-    R.shared_refusal-early.ensures c.if-early-ne0.false
+    c.shared_refusal-early.ensures c.if-early-ne0.false
 
 pub returns-then-place-ge4 : goal.returns-then-place-ge4
 returns-then-place-ge4 c =
-    let P = c.before.before in
-    let E = P.before in
-    let R = E.before in
-    let S = R.before.before.before.before.before.before.before.before.before in
+    let S = c.before.before.before.before.before.before.before.before.before.before.before.before in
     return-not-held S.args.word S.args.party (lent S) S.args.name (store S) _
-    R.shared_refusal-early.ensures E.if-early-ne0.false _ P.own_find-place.ensures
+    c.shared_refusal-early.ensures c.if-early-ne0.false _ c.own_find-place.ensures
     c.if-place-ge4.true
 
 pub take_merged-requires : goal.take_merged-requires
 take_merged-requires c =
-    let L = c.before.before.before.before in
-    let P = L.before in
-    let E = P.before in
-    let R = E.before in
-    let S = R.before.before.before.before.before.before.before.before.before in let whole = all_fit S.args.word S.args.party (lent S) S.args.name (store S) _
-    R.shared_refusal-early.ensures E.if-early-ne0.false _ L.if-place-ge4.false in record { i_bound = whole.0; neighbours_len = whole.1 }
+    let S = c.before.before.before.before.before.before.before.before.before.before.before.before.before.before.before in let whole = all_fit S.args.word S.args.party (lent S) S.args.name (store S) _
+    c.shared_refusal-early.ensures c.if-early-ne0.false _ c.if-place-ge4.false in record { i_bound = whole.0; neighbours_len = whole.1 }
 
 pub returns : goal.returns
 returns c =
-    let H = c.before.before in
-    let T = H.before.before.before.before.before in
-    let W = T.before.before.before in
-    let L = W.before in
-    let P = L.before in
-    let E = P.before in
-    let R = E.before in
-    let S = R.before.before.before.before.before.before.before.before.before in
+    let S = c.before.before.before.before.before.before.before.before.before.before.before.before.before.before.before.before.before.before.before.before.before.before in
     return-done S.args.word S.args.party (lent S) S.args.name (store S) _
-    R.shared_refusal-early.ensures E.if-early-ne0.false _ P.own_find-place.ensures
-    L.if-place-ge4.false _ W.own_word-own.ensures _ H.word_at.ensures _ _ _ T.take_merged.ensures
+    c.shared_refusal-early.ensures c.if-early-ne0.false _ c.own_find-place.ensures
+    c.if-place-ge4.false _ c.own_word-own.ensures _ c.word_at.ensures _ _ _ c.take_merged.ensures
     c.merge_used.ensures

@@ -21,48 +21,32 @@ store S = record { heads = S.args.heads.now; neighbours = S.args.held_neighbours
 
 pub returns-then-early-ne0 : goal.returns-then-early-ne0
 returns-then-early-ne0 c =
-    let R = c.before.before in
-    let S = R.before.before.before.before.before.before.before.before.before in
+    let S = c.before.before.before.before.before.before.before.before.before in
     save-refused S.args.word S.args.party (lent S) S.args.name (store S) _
-    R.shared_refusal-early.ensures c.if-early-ne0.true
+    c.shared_refusal-early.ensures c.if-early-ne0.true
 
 pub own_place_for-place-requires : goal.own_place_for-place-requires
 own_place_for-place-requires c =
-    let E = c.before.before in
-    let R = E.before in
-    let S = R.before.before.before.before.before.before.before.before.before in
+    let S = c.before.before.before.before.before.before.before.before.before in
     search-fits S.args.word S.args.party (lent S) S.args.name (store S) _
-    R.shared-refusal.ensures E.if1.false
+    c.shared-refusal.ensures c.if1.false
 
 pub returns-then-place-ge4 : goal.returns-then-place-ge4
 returns-then-place-ge4 c =
-    let P = c.before.before in
-    let E = P.before.before in
-    let R = E.before in
-    let S = R.before.before.before.before.before.before.before.before.before in
+    let S = c.before.before.before.before.before.before.before.before.before.before.before in
     save-full S.args.word S.args.party (lent S) S.args.name (store S) _
-    R.shared-refusal.ensures E.if1.false _ P.own_place_for-place.ensures
+    c.shared-refusal.ensures c.if1.false _ c.own_place_for-place.ensures
     c.if-place-ge4.true
 
 pub put_masked-requires : goal.put_masked-requires
 put_masked-requires c =
-    let L = c.before.before.before.before.before in
-    let P = L.before in
-    let E = P.before.before in
-    let R = E.before in
-    let S = R.before.before.before.before.before.before.before.before.before in let whole = put-fits S.args.word S.args.party (lent S) S.args.name (store S) _
-    R.shared-refusal.ensures E.if1.false _ P.own_place_for-place.ensures
-    L.if-place-ge4.false in record { i_bound = whole.0; heads_len = whole.1 }
+    let S = c.before.before.before.before.before.before.before.before.before.before.before.before.before.before.before in let whole = put-fits S.args.word S.args.party (lent S) S.args.name (store S) _
+    c.shared-refusal.ensures c.if1.false _ c.own_place_for-place.ensures
+    c.if-place-ge4.false in record { i_bound = whole.0; heads_len = whole.1 }
 
 pub returns : goal.returns
 returns c =
-    let M = c.before.before.before.before.before.before.before in
-    let W = M.before.before.before.before in
-    let L = W.before in
-    let P = L.before in
-    let E = P.before.before in
-    let R = E.before in
-    let S = R.before.before.before.before.before.before.before.before.before in
+    let S = c.before.before.before.before.before.before.before.before.before.before.before.before.before.before.before.before.before.before.before.before.before.before in
     save-done S.args.word S.args.party (lent S) S.args.name (store S) _
-    R.shared-refusal.ensures E.if1.false _ P.own_place_for-place.ensures
-    L.if-place-ge4.false _ W.own_word.ensures _ M.put_masked.ensures
+    c.shared-refusal.ensures c.if1.false _ c.own_place_for-place.ensures
+    c.if-place-ge4.false _ c.own_word.ensures _ c.put_masked.ensures

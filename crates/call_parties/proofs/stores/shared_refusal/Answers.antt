@@ -29,44 +29,30 @@ returns-then-n-ne64 c =
 
 pub returns-then-early-ne0 : goal.returns-then-early-ne0
 returns-then-early-ne0 c =
-    let E = c.before.before in
-    let G = E.before in
-    let B = G.before in
-    let S = B.before.before.before.before.before.before.before in
-    shared-early S.args.word S.args.party (lent S) (store S) B.if-n-ne64.false _ _ _
-    B.both_refusal-both.ensures G.party_number.ensures E.earlier-early.ensures c.if-early-ne0.true
+    let S = c.before.before.before.before.before.before.before.before.before.before.before in
+    shared-early S.args.word S.args.party (lent S) (store S) c.if-n-ne64.false _ _ _
+    c.both_refusal-both.ensures c.party_number.ensures c.earlier-early.ensures c.if-early-ne0.true
 
 pub crosses-requires : goal.crosses-requires
 crosses-requires c =
-    let E = c.before.before in
-    let G = E.before in
-    let B = G.before in
-    let S = B.before.before.before.before.before.before.before in
-    words-fit S.args.word S.args.party (lent S) (store S) B.if-n-ne64.false _ _ _
-    B.both_refusal-both.ensures G.party_number.ensures E.earlier-early.ensures c.if-early-ne0.false
+    let S = c.before.before.before.before.before.before.before.before.before.before.before in
+    words-fit S.args.word S.args.party (lent S) (store S) c.if-n-ne64.false _ _ _
+    c.both_refusal-both.ensures c.party_number.ensures c.earlier-early.ensures c.if-early-ne0.false
 
 pub returns-then-crosses : goal.returns-then-crosses
 returns-then-crosses c =
-    let X = c.before.before in
-    let E = X.before.before in
-    let G = E.before in
-    let B = G.before in
-    let S = B.before.before.before.before.before.before.before in
-    shared_last S.args.word S.args.party (lent S) (store S) B.if-n-ne64.false _ _ _
-    B.both_refusal-both.ensures G.party_number.ensures E.earlier-early.ensures X.if-early-ne0.false _
-    (sym c.if-crosses.true ∙ X.crosses.ensures
-    ∙ crosses-reads (used_record 64 S.args.neighbours.now [] 0) (lent S) (sym B.if-n-ne64.false) refl
+    let S = c.before.before.before.before.before.before.before.before.before.before.before.before.before in
+    shared_last S.args.word S.args.party (lent S) (store S) c.if-n-ne64.false _ _ _
+    c.both_refusal-both.ensures c.party_number.ensures c.earlier-early.ensures c.if-early-ne0.false _
+    (sym c.if-crosses.true ∙ c.crosses.ensures
+    ∙ crosses-reads (used_record 64 S.args.neighbours.now [] 0) (lent S) (sym c.if-n-ne64.false) refl
     S.args.word)
 
 pub returns-else-crosses : goal.returns-else-crosses
 returns-else-crosses c =
-    let X = c.before.before in
-    let E = X.before.before in
-    let G = E.before in
-    let B = G.before in
-    let S = B.before.before.before.before.before.before.before in
-    shared_last S.args.word S.args.party (lent S) (store S) B.if-n-ne64.false _ _ _
-    B.both_refusal-both.ensures G.party_number.ensures E.earlier-early.ensures X.if-early-ne0.false _
-    (sym c.if-crosses.false ∙ X.crosses.ensures
-    ∙ crosses-reads (used_record 64 S.args.neighbours.now [] 0) (lent S) (sym B.if-n-ne64.false) refl
+    let S = c.before.before.before.before.before.before.before.before.before.before.before.before.before in
+    shared_last S.args.word S.args.party (lent S) (store S) c.if-n-ne64.false _ _ _
+    c.both_refusal-both.ensures c.party_number.ensures c.earlier-early.ensures c.if-early-ne0.false _
+    (sym c.if-crosses.false ∙ c.crosses.ensures
+    ∙ crosses-reads (used_record 64 S.args.neighbours.now [] 0) (lent S) (sym c.if-n-ne64.false) refl
     S.args.word)

@@ -13,10 +13,9 @@ returns-then-number-ne0 c = refused _ c.used_refusal-number.ensures c.if-number-
 
 pub plot_at-line-requires : goal.plot_at-line-requires
 plot_at-line-requires c =
-    let E = c.before.before in
-    let a = E.args in
+    let a = c.args in
     let u : UsedRecord = used_record a.n a.neighbours.now a.codes.now a.used in
-    amplitude-unrefused u a.y (sym E.used_refusal-number.ensures ∙ c.if-number-ne0.false)
+    amplitude-unrefused u a.y (sym c.used_refusal-number.ensures ∙ c.if-number-ne0.false)
 
 pub bits-requires : goal.bits-requires
 bits-requires c = (subst AllNumbers (sym c.plot_at-line.ensures) (all-numbers _ _ _)).re
@@ -29,12 +28,10 @@ bits-requires-3 c = (subst AllNumbers (sym c.plot_at-line.ensures) (all-numbers 
 
 pub returns : goal.returns
 returns c =
-    let P = c.before.before.before.before in
-    let E = P.before.before in
-    let a = E.args in
+    let a = c.args in
     let u : UsedRecord = used_record a.n a.neighbours.now a.codes.now a.used in
-    let l = line-held u a.y (sym E.used_refusal-number.ensures ∙ P.if-number-ne0.false) _ P.plot_at-line.ensures in
-    done _ E.used_refusal-number.ensures P.if-number-ne0.false (
+    let l = line-held u a.y (sym c.used_refusal-number.ensures ∙ c.if-number-ne0.false) _ c.plot_at-line.ensures in
+    done _ c.used_refusal-number.ensures c.if-number-ne0.false (
       c.bits.ensures ∙ ap (λ v. bits_of v.re) l,
       (
         c.bits-2.ensures ∙ ap (λ v. bits_of v.im) l,

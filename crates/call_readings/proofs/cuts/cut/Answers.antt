@@ -10,10 +10,9 @@ returns-then-number-ne0 c = refused _ c.used_refusal-number.ensures c.if-number-
 
 pub cut_rank-requires : goal.cut_rank-requires
 cut_rank-requires c =
-    let E = c.before.before in
-    let a = E.args in
+    let a = c.args in
     let u : UsedRecord = used_record a.n a.neighbours.now a.codes.now a.used in
-    let A = accepted-cut u a.side (sym E.used_refusal-number.ensures ∙ c.if-number-ne0.false) in record { n_bound = (A.held.upto, A.held.neighbours-length, A.below); simple = A.held.simple }
+    let A = accepted-cut u a.side (sym c.used_refusal-number.ensures ∙ c.if-number-ne0.false) in record { n_bound = (A.held.upto, A.held.neighbours-length, A.below); simple = A.held.simple }
 
 pub returns : goal.returns
 returns c = done _ c.used_refusal-number.ensures c.if-number-ne0.false (c.cut_rank.ensures, tt)

@@ -35,35 +35,29 @@ others-are O =
 
 pub returns-then-early-ne0 : goal.returns-then-early-ne0
 returns-then-early-ne0 c =
-    let E = c.before.before in
-    let O = E.before in
+    let O = c.before.before.before in
     let S = O.before.before.before.before.before.before.before.before in
     let a = S.args in
-    expand-refused (lent S) a.signs.now a.z.now a.x.now _ (others-are O) _ E.used_refusal-early.ensures
+    expand-refused (lent S) a.signs.now a.z.now a.x.now _ (others-are O) _ c.used_refusal-early.ensures
     c.if-early-ne0.true
 
 pub expand_into-requires : goal.expand_into-requires
 expand_into-requires c =
-    let D = c.before.before.before.before in
-    let E = D.before in
-    let O = E.before in
+    let O = c.before.before.before.before.before.before in
     let S = O.before.before.before.before.before.before.before.before in
     let s = S.args.signs.now in
     let z = S.args.z.now in
     let x = S.args.x.now in
-    let A = accepted-held (lent S) s z x _ (others-are O) _ E.used_refusal-early.ensures D.if-early-ne0.false in record { n_bound = (A.upto, A.neighbours-length, A.codes-length); by_index = (A.codes-below, A.words-below); signs_len = (
-          signs-fit (lent S) s z x _ (others-are O) _ E.used_refusal-early.ensures D.if-early-ne0.false,
-          z-fit (lent S) s z x _ (others-are O) _ E.used_refusal-early.ensures D.if-early-ne0.false,
-          x-fit (lent S) s z x _ (others-are O) _ E.used_refusal-early.ensures D.if-early-ne0.false,
+    let A = accepted-held (lent S) s z x _ (others-are O) _ c.used_refusal-early.ensures c.if-early-ne0.false in record { n_bound = (A.upto, A.neighbours-length, A.codes-length); by_index = (A.codes-below, A.words-below); signs_len = (
+          signs-fit (lent S) s z x _ (others-are O) _ c.used_refusal-early.ensures c.if-early-ne0.false,
+          z-fit (lent S) s z x _ (others-are O) _ c.used_refusal-early.ensures c.if-early-ne0.false,
+          x-fit (lent S) s z x _ (others-are O) _ c.used_refusal-early.ensures c.if-early-ne0.false,
         ) }
 
 pub returns : goal.returns
 returns c =
-    let T = c.before.before.before.before.before.before.before in
-    let D = T.before.before.before.before in
-    let E = D.before in
-    let O = E.before in
+    let O = c.before.before.before.before.before.before.before.before.before.before.before.before.before in
     let S = O.before.before.before.before.before.before.before.before in
     let a = S.args in
-    expand-accepted (lent S) a.signs.now a.z.now a.x.now _ (others-are O) _ E.used_refusal-early.ensures
-    D.if-early-ne0.false _ _ _ T.expand_into.ensures.signs_after T.expand_into.ensures.z_after T.expand_into.ensures.x_after
+    expand-accepted (lent S) a.signs.now a.z.now a.x.now _ (others-are O) _ c.used_refusal-early.ensures
+    c.if-early-ne0.false _ _ _ c.expand_into.ensures.signs_after c.expand_into.ensures.z_after c.expand_into.ensures.x_after

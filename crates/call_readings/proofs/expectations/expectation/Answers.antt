@@ -18,20 +18,17 @@ lent S = used_record S.args.n S.args.neighbours.now S.args.codes.now S.args.used
 
 pub returns-then-number-ne0 : goal.returns-then-number-ne0
 returns-then-number-ne0 c =
-    let E = c.before.before in
-    let S = E.before.before.before in
-    refused _ (words-joined (lent S) S.args.z S.args.x E.used_refusal-number.ensures) c.if-number-ne0.true (refl, tt)
+    let S = c.before.before.before.before.before in
+    refused _ (words-joined (lent S) S.args.z S.args.x c.used_refusal-number.ensures) c.if-number-ne0.true (refl, tt)
 
 pub row_value-requires : goal.row_value-requires
 row_value-requires c =
-    let E = c.before.before in
-    let S = E.before.before.before in
+    let S = c.before.before.before.before.before in
     let A = accepted-row (lent S) S.args.z S.args.x
-    (sym (words-joined (lent S) S.args.z S.args.x E.used_refusal-number.ensures) ∙ c.if-number-ne0.false) in record { accepted_record = A.held; z_bound = (A.z-below, A.x_below) }
+    (sym (words-joined (lent S) S.args.z S.args.x c.used_refusal-number.ensures) ∙ c.if-number-ne0.false) in record { accepted_record = A.held; z_bound = (A.z-below, A.x_below) }
 
 pub returns : goal.returns
 returns c =
-    let E = c.before.before.before in
-    let S = E.before.before.before in
-    done _ (words-joined (lent S) S.args.z S.args.x E.used_refusal-number.ensures) c.if-number-ne0.false
+    let S = c.before.before.before.before.before.before in
+    done _ (words-joined (lent S) S.args.z S.args.x c.used_refusal-number.ensures) c.if-number-ne0.false
     (c.row_value.ensures, tt)

@@ -10,15 +10,12 @@ returns-then-number-ne0 c = refused _ c.generate_refusal-number.ensures c.if-num
 
 pub put_job-requires : goal.put_job-requires
 put_job-requires c =
-    let E = c.before.before in
-    let a = E.args in
-    accepted-job E.args.n E.args.count E.args.seed E.args.text.now
-    (sym E.generate_refusal-number.ensures ∙ c.if-number-ne0.false)
+    let a = c.args in
+    accepted-job c.args.n c.args.count c.args.seed c.args.text.now
+    (sym c.generate_refusal-number.ensures ∙ c.if-number-ne0.false)
 
 pub returns : goal.returns
 returns c =
-    let P = c.before.before.before in
-    let E = P.before.before.before in
-    let a = E.args in
-    generate-accepted E.args.n E.args.count E.args.seed E.args.text.now E.generate_refusal-number.ensures
-    P.if-number-ne0.false _ _ P.put_job.ensures
+    let a = c.args in
+    generate-accepted c.args.n c.args.count c.args.seed c.args.text.now c.generate_refusal-number.ensures
+    c.if-number-ne0.false _ _ c.put_job.ensures

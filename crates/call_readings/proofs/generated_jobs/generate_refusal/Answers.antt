@@ -10,26 +10,19 @@ returns-then-count-gt4096 c = first-is (here (lt-ltb 4096 _ c.if-count-gt4096.tr
 
 pub returns-then-bad_count : goal.returns-then-bad_count
 returns-then-bad_count c =
-    let n = c.before.before in
-    first-is (later (le-ltb 4096 _ n.if-count-gt4096.false) (here (sym n.bad_count.ensures ∙ c.if-bad_count.true)))
+    first-is (later (le-ltb 4096 _ c.if-count-gt4096.false) (here (sym c.bad_count.ensures ∙ c.if-bad_count.true)))
 
 pub returns-then-other_than : goal.returns-then-other_than
 returns-then-other_than c =
-    let t = c.before.before in
-    let n = t.before.before in
-    first-is (later (le-ltb 4096 _ n.if-count-gt4096.false) (later (sym n.bad_count.ensures ∙ t.if-bad_count.false)
-    (here (sym t.other_than.ensures ∙ c.if-other_than.true))))
+    first-is (later (le-ltb 4096 _ c.if-count-gt4096.false) (later (sym c.bad_count.ensures ∙ c.if-bad_count.false)
+    (here (sym c.other_than.ensures ∙ c.if-other_than.true))))
 
 pub returns-then-seed-eq0 : goal.returns-then-seed-eq0
 returns-then-seed-eq0 c =
-    let t = c.before.before.before in
-    let n = t.before.before in
-    first-is (later (le-ltb 4096 _ n.if-count-gt4096.false) (later (sym n.bad_count.ensures ∙ t.if-bad_count.false)
-    (later (sym t.other_than.ensures ∙ c.if-other_than.false) (here (eq-eqb _ 0 c.if-seed-eq0.true)))))
+    first-is (later (le-ltb 4096 _ c.if-count-gt4096.false) (later (sym c.bad_count.ensures ∙ c.if-bad_count.false)
+    (later (sym c.other_than.ensures ∙ c.if-other_than.false) (here (eq-eqb _ 0 c.if-seed-eq0.true)))))
 
 pub returns : goal.returns
 returns c =
-    let t = c.before.before.before in
-    let n = t.before.before in
-    first-is (later (le-ltb 4096 _ n.if-count-gt4096.false) (later (sym n.bad_count.ensures ∙ t.if-bad_count.false)
-    (later (sym t.other_than.ensures ∙ c.if-other_than.false) (later (ne_eqb _ 0 c.if-seed-eq0.false) none))))
+    first-is (later (le-ltb 4096 _ c.if-count-gt4096.false) (later (sym c.bad_count.ensures ∙ c.if-bad_count.false)
+    (later (sym c.other_than.ensures ∙ c.if-other_than.false) (later (ne_eqb _ 0 c.if-seed-eq0.false) none))))

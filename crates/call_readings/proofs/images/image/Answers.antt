@@ -19,28 +19,24 @@ ElseEarlyNe0 = lts.Else1 tie.the-claims reads.Pre reads.Post tie.handed_clauses
 
 pub returns-then-early-ne0 : goal.returns-then-early-ne0
 returns-then-early-ne0 c =
-    let E = c.before.before in
-    let O = E.before in
-    let a = O.args in
+    let a = c.args in
     let l : LentRecord = lent_record a.n a.neighbours.now a.codes.now in
-    let o = ap₂ ◌||◌ O.other_than.ensures
-    (ap₂ ◌||◌ O.other_than-2.ensures O.other_than-3.ensures) in
+    let o = ap₂ ◌||◌ c.other_than.ensures
+    (ap₂ ◌||◌ c.other_than-2.ensures c.other_than-3.ensures) in
     image-refused l a.image.now a.signs.now a.list.now a.count.now _ o _
-    E.record_refusal-early.ensures c.if-early-ne0.true
+    c.record_refusal-early.ensures c.if-early-ne0.true
 
 -- the record is accepted where nothing has refused
-accepted : (c : ElseEarlyNe0) → let O = c.before.before in
-    let a = O.args in
+accepted : (c : ElseEarlyNe0) → 
+    let a = c.args in
     AcceptedRecord (lent_record a.n a.neighbours.now a.codes.now)
 accepted c =
-    let E = c.before in
-    let O = E.before in
-    let a = O.args in
+    let a = c.args in
     let l : LentRecord = lent_record a.n a.neighbours.now a.codes.now in
-    let o = ap₂ ◌||◌ O.other_than.ensures
-    (ap₂ ◌||◌ O.other_than-2.ensures O.other_than-3.ensures) in
+    let o = ap₂ ◌||◌ c.other_than.ensures
+    (ap₂ ◌||◌ c.other_than-2.ensures c.other_than-3.ensures) in
     accepted-held l a.image.now a.signs.now a.list.now a.count.now _ o _
-    E.record_refusal-early.ensures c.if-early-ne0.false
+    c.record_refusal-early.ensures c.if-early-ne0.false
 
 pub slice_bounds-graph-end : goal.slice_bounds-graph-end
 slice_bounds-graph-end c = (accepted c.before).upto
@@ -56,97 +52,78 @@ slice_bounds-image_in-end-2 c = sym (part-long _ _ (accepted c.before.before.bef
 
 pub image_in-told-requires : goal.image_in-told-requires
 image_in-told-requires c =
-    let A = accepted c.before.before.before.before in (
-      accepted-unrefused _ _ _ A,
-      (
+    let A = accepted c.before.before.before.before in record { unrefused = accepted-unrefused _ _ _ A; words_len = (
         part-long _ _ A.upto refl ∙ sym A.neighbours-length,
         part-long _ _ A.upto refl ∙ sym A.neighbours-length,
         refl,
-      ),
-    )
+      ) }
 
 pub returns-then-told-ne0 : goal.returns-then-told-ne0
 returns-then-told-ne0 c =
-    let P = c.before.before.before.before.before.before in
-    let H = P.before.before.before.before in
+    let H = c.before.before.before.before.before.before.before.before.before.before in
     let A = accepted H in
-    let E = H.before in
-    let O = E.before in
-    let a = O.args in
+    
+    
+    let a = H.args in
     let l : LentRecord = lent_record a.n a.neighbours.now a.codes.now in
-    let o = ap₂ ◌||◌ O.other_than.ensures
-    (ap₂ ◌||◌ O.other_than-2.ensures O.other_than-3.ensures) in
+    let o = ap₂ ◌||◌ H.other_than.ensures
+    (ap₂ ◌||◌ H.other_than-2.ensures H.other_than-3.ensures) in
     image-looped l a.image.now a.signs.now a.list.now a.count.now _ o _
-    E.record_refusal-early.ensures H.if-early-ne0.false _
-    (answered-longer _ _ _ A _ _ _ _ _ P.image_in-told.ensures [] []
-    (P.image_in-told.auto.1.1.0 ∙ part-long _ _ A.upto refl)
-    (P.image_in-told.auto.1.1.1.0 ∙ part-long _ _ A.upto refl))
+    H.record_refusal-early.ensures H.if-early-ne0.false _
+    (answered-longer _ _ _ A _ _ _ _ _ c.image_in-told.ensures [] []
+    (c.image_in-told.auto.1.1.0 ∙ part-long _ _ A.upto refl)
+    (c.image_in-told.auto.1.1.1.0 ∙ part-long _ _ A.upto refl))
     c.if-told-ne0.true
 
 pub copy_words-requires : goal.copy_words-requires
 copy_words-requires c =
-    let H = c.before.before.before.before.before.before.before.before.before.before.before in
-    let E = H.before in
-    let O = E.before in
-    let a = O.args in
+    let a = c.args in
     let l : LentRecord = lent_record a.n a.neighbours.now a.codes.now in
-    let o = ap₂ ◌||◌ O.other_than.ensures
-    (ap₂ ◌||◌ O.other_than-2.ensures O.other_than-3.ensures) in
+    let o = ap₂ ◌||◌ c.other_than.ensures
+    (ap₂ ◌||◌ c.other_than-2.ensures c.other_than-3.ensures) in
     graph-upto l a.image.now a.signs.now a.list.now a.count.now _ o _
-    E.record_refusal-early.ensures H.if-early-ne0.false
+    c.record_refusal-early.ensures c.if-early-ne0.false
 
 pub copy_bytes-requires : goal.copy_bytes-requires
 copy_bytes-requires c =
-    let W = c.before.before.before.before in
-    let H = W.before.before.before.before.before.before.before.before.before.before.before in
-    let E = H.before in
-    let O = E.before in
-    let a = O.args in
+    let a = c.args in
     let l : LentRecord = lent_record a.n a.neighbours.now a.codes.now in
-    let o = ap₂ ◌||◌ O.other_than.ensures
-    (ap₂ ◌||◌ O.other_than-2.ensures O.other_than-3.ensures) in
+    let o = ap₂ ◌||◌ c.other_than.ensures
+    (ap₂ ◌||◌ c.other_than-2.ensures c.other_than-3.ensures) in
     signs-upto l a.image.now a.signs.now a.list.now a.count.now _ o _
-    E.record_refusal-early.ensures H.if-early-ne0.false
+    c.record_refusal-early.ensures c.if-early-ne0.false
 
 pub copy_list-requires : goal.copy_list-requires
 copy_list-requires c =
-    let B = c.before.before.before.before in
-    let W = B.before.before.before.before in
-    let P = W.before.before.before.before.before.before.before in
-    let H = P.before.before.before.before in
+    let H = c.before.before.before.before.before.before.before.before.before.before.before.before.before.before.before.before.before.before.before in
     let A = accepted H in
-    let E = H.before in
-    let O = E.before in
-    let a = O.args in
+    
+    
+    let a = H.args in
     let l : LentRecord = lent_record a.n a.neighbours.now a.codes.now in
-    let o = ap₂ ◌||◌ O.other_than.ensures
-    (ap₂ ◌||◌ O.other_than-2.ensures O.other_than-3.ensures) in
-    let I = (answered-longer _ _ _ A _ _ _ _ _ P.image_in-told.ensures [] []
-    (P.image_in-told.auto.1.1.0 ∙ part-long _ _ A.upto refl)
-    (P.image_in-told.auto.1.1.1.0 ∙ part-long _ _ A.upto refl)) in (
+    let o = ap₂ ◌||◌ H.other_than.ensures
+    (ap₂ ◌||◌ H.other_than-2.ensures H.other_than-3.ensures) in
+    let I = (answered-longer _ _ _ A _ _ _ _ _ c.image_in-told.ensures [] []
+    (c.image_in-told.auto.1.1.0 ∙ part-long _ _ A.upto refl)
+    (c.image_in-told.auto.1.1.1.0 ∙ part-long _ _ A.upto refl)) in (
       I.room,
       list-has-room l a.image.now a.signs.now a.list.now a.count.now _ o _
-          E.record_refusal-early.ensures H.if-early-ne0.false _ I,
+          H.record_refusal-early.ensures H.if-early-ne0.false _ I,
     )
 
 pub returns : goal.returns
 returns c =
-    let D = c.before.before.before in
-    let B = D.before.before.before.before in
-    let W = B.before.before.before.before in
-    let Z = W.before.before in
-    let P = Z.before.before.before.before.before in
-    let H = P.before.before.before.before in
+    let H = c.before.before.before.before.before.before.before.before.before.before.before.before.before.before.before.before.before.before.before.before.before.before in
     let A = accepted H in
-    let E = H.before in
-    let O = E.before in
-    let a = O.args in
+    
+    
+    let a = H.args in
     let l : LentRecord = lent_record a.n a.neighbours.now a.codes.now in
-    let o = ap₂ ◌||◌ O.other_than.ensures
-    (ap₂ ◌||◌ O.other_than-2.ensures O.other_than-3.ensures) in
+    let o = ap₂ ◌||◌ H.other_than.ensures
+    (ap₂ ◌||◌ H.other_than-2.ensures H.other_than-3.ensures) in
     image-accepted l a.image.now a.signs.now a.list.now a.count.now _ o _
-    E.record_refusal-early.ensures H.if-early-ne0.false _
-    (answered-longer _ _ _ A _ _ _ _ _ P.image_in-told.ensures _ _
-    (P.image_in-told.auto.1.1.0 ∙ part-long _ _ A.upto refl)
-    (P.image_in-told.auto.1.1.1.0 ∙ part-long _ _ A.upto refl))
-    Z.if-told-ne0.false _ _ _ W.copy_words.ensures B.copy_bytes.ensures D.copy_list.ensures
+    H.record_refusal-early.ensures H.if-early-ne0.false _
+    (answered-longer _ _ _ A _ _ _ _ _ c.image_in-told.ensures _ _
+    (c.image_in-told.auto.1.1.0 ∙ part-long _ _ A.upto refl)
+    (c.image_in-told.auto.1.1.1.0 ∙ part-long _ _ A.upto refl))
+    c.if-told-ne0.false _ _ _ c.copy_words.ensures c.copy_bytes.ensures c.copy_list.ensures

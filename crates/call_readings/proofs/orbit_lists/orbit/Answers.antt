@@ -16,32 +16,26 @@ returns-then-number-ne0 c = refused _ c.orbit_refusal-number.ensures c.if-number
 
 pub graph_number-start-requires : goal.graph_number-start-requires
 graph_number-start-requires c =
-    let E = c.before.before in
-    let a = E.args in
-    let A = accepted-graph E.args.n E.args.neighbours.now E.args.list.now (sym E.orbit_refusal-number.ensures ∙ c.if-number-ne0.false)
+    let a = c.args in
+    let A = accepted-graph c.args.n c.args.neighbours.now c.args.list.now (sym c.orbit_refusal-number.ensures ∙ c.if-number-ne0.false)
     in
     (A.positive, A.few, A.words)
 
 pub write_orbit-requires : goal.write_orbit-requires
 write_orbit-requires c =
-    let G = c.before.before in
-    let E = G.before.before in
-    let a = E.args in
-    let A = accepted-graph E.args.n E.args.neighbours.now E.args.list.now
-    (sym E.orbit_refusal-number.ensures ∙ G.if-number-ne0.false) in (
+    let a = c.args in
+    let A = accepted-graph c.args.n c.args.neighbours.now c.args.list.now
+    (sym c.orbit_refusal-number.ensures ∙ c.if-number-ne0.false) in (
       A.positive,
       A.few,
-      subst (λ g. g < graph_count E.args.n) (sym G.graph_number-start.ensures) (number_lt E.args.n _),
+      subst (λ g. g < graph_count c.args.n) (sym c.graph_number-start.ensures) (number_lt c.args.n _),
       A.places,
     )
 
 pub returns : goal.returns
 returns c =
-    let W = c.before.before.before in
-    let G = W.before.before in
-    let E = G.before.before in
-    let a = E.args in
-    done _ E.orbit_refusal-number.ensures G.if-number-ne0.false (
-      W.write_orbit.ensures.0 ∙ ap (λ g. written (orbit_list E.args.n g) E.args.list.now) G.graph_number-start.ensures,
-      (W.write_orbit.ensures.1 ∙ ap (λ g. length (orbit_list E.args.n g)) G.graph_number-start.ensures, tt),
+    let a = c.args in
+    done _ c.orbit_refusal-number.ensures c.if-number-ne0.false (
+      c.write_orbit.ensures.0 ∙ ap (λ g. written (orbit_list c.args.n g) c.args.list.now) c.graph_number-start.ensures,
+      (c.write_orbit.ensures.1 ∙ ap (λ g. length (orbit_list c.args.n g)) c.graph_number-start.ensures, tt),
     )

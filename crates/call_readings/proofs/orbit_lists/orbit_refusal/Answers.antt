@@ -19,29 +19,23 @@ strays-requires c =
 
 pub returns-then-strays : goal.returns-then-strays
 returns-then-strays c =
-    let past4 = c.before.before.before in
-    first-is (later past4.if-n.false (later past4.if-neighbours-vertices.false
+    first-is (later c.if-n.false (later c.if-neighbours-vertices.false
     (here (says c.strays.ensures c.if-strays.true))))
 
 pub not_simple-requires : goal.not_simple-requires
 not_simple-requires c =
-    let past4 = c.before.before.before in
-    let a = past4.args in
-    let k = few-vertices _ past4.if-n.false in
-    (k.0, omega (arith, k.1), (both-lengths a.n a.neighbours.now a.list.now past4.if-neighbours-vertices.false).0)
+    let a = c.args in
+    let k = few-vertices _ c.if-n.false in
+    (k.0, omega (arith, k.1), (both-lengths a.n a.neighbours.now a.list.now c.if-neighbours-vertices.false).0)
 
 pub returns-then-not_simple : goal.returns-then-not_simple
 returns-then-not_simple c =
-    let past5 = c.before.before.before in
-    let past4 = past5.before.before in
-    first-is (later past4.if-n.false (later past4.if-neighbours-vertices.false
-    (later (says past5.strays.ensures past5.if-strays.false)
+    first-is (later c.if-n.false (later c.if-neighbours-vertices.false
+    (later (says c.strays.ensures c.if-strays.false)
     (here (says c.not_simple.ensures c.if-not_simple.true)))))
 
 pub returns : goal.returns
 returns c =
-    let past5 = c.before.before.before in
-    let past4 = past5.before.before in
-    first-is (later past4.if-n.false (later past4.if-neighbours-vertices.false
-    (later (says past5.strays.ensures past5.if-strays.false)
+    first-is (later c.if-n.false (later c.if-neighbours-vertices.false
+    (later (says c.strays.ensures c.if-strays.false)
     (later (says c.not_simple.ensures c.if-not_simple.false) none))))

@@ -10,16 +10,12 @@ induced_codes-requires c =
 
 pub image_answer-requires : goal.image_answer-requires
 image_answer-requires c =
-    let P = c.before.before.before.before in
-    let S = P.before.before.before.before.before.before.before in
-    let a = S.args in
-    made-accepted a.n a.neighbours.now a.codes.now a.choice.now a.codes2.now S.requires.accepted_record
-    a.induced.now _ S.requires.choice_len.2 P.induced-codes.ensures
+    let a = c.args in
+    made-accepted a.n a.neighbours.now a.codes.now a.choice.now a.codes2.now c.requires.accepted_record
+    a.induced.now _ c.requires.choice_len.2 c.induced-codes.ensures
 
 pub returns : goal.returns
 returns c =
-    let P = c.before.before.before.before.before in
-    let S = P.before.before.before.before.before.before.before in
-    let a = S.args in
-    made-answer a.n a.neighbours.now a.codes.now a.choice.now a.codes2.now S.requires.accepted_record
-    a.induced.now _ S.requires.choice_len.2 P.induced-codes.ensures _ c.image_answer.ensures
+    let a = c.args in
+    made-answer a.n a.neighbours.now a.codes.now a.choice.now a.codes2.now c.requires.accepted_record
+    a.induced.now _ c.requires.choice_len.2 c.induced-codes.ensures _ c.image_answer.ensures

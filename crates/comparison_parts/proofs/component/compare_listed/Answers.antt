@@ -10,9 +10,8 @@ use Rattle.comparison_parts.proofs.component.compare_listed.Goals as goal
 -- src/lib.rt:47:5
 pub extract-requires : goal.extract-requires
 extract-requires c =
-    let S = c.before.before.before.before.before.before.before.before.before.before.before in
-    let G = S.requires.numbered_pair in
-    let F = G.pair.first in record { words_len_bound = (G.few, S.requires.numbers_len.0); neighbours_len_bound = (
+    let G = c.requires.numbered_pair in
+    let F = G.pair.first in record { words_len_bound = (G.few, c.requires.numbers_len.0); neighbours_len_bound = (
         omega (arith, F.neighbours-long, G.pair.upto),
         F.codes-long ∙ sym F.neighbours-long,
         λ i l. omega (arith, F.neighbours-long, G.numbers.below i l),
@@ -21,34 +20,30 @@ extract-requires c =
 -- src/lib.rt:48:5
 pub extract-requires-2 : goal.extract-requires-2
 extract-requires-2 c =
-    let S = c.before.before.before.before.before.before.before.before.before.before.before.before.before.before.before.before.before.before in
-    let G = S.pre.0 in
-    let F = G.pair.second in record { words_len_bound = (omega (arith, G.few, S.pre.1.0.1), S.pre.1.0.2 ∙ sym S.pre.1.0.1); neighbours_len_bound = (
+    let G = c.requires.numbered_pair in
+    let F = G.pair.second in record { words_len_bound = (omega (arith, G.few, c.requires.numbers_len.1), c.requires.numbers_len.2 ∙ sym c.requires.numbers_len.1); neighbours_len_bound = (
         omega (arith, F.neighbours-long, G.pair.upto),
         F.codes-long ∙ sym F.neighbours-long,
-        λ i l. omega (arith, F.neighbours-long, G.numbers.below i (omega (arith, l, S.pre.1.0.1))),
+        λ i l. omega (arith, F.neighbours-long, G.numbers.below i (omega (arith, l, c.requires.numbers_len.1))),
       ) }
 
 -- src/lib.rt:49:5
 pub search_records-requires : goal.search_records-requires
 search_records-requires c =
-    let E = c.before.before.before.before.before.before.before.before.before.before in
-    let H = E.before.before.before.before.before.before.before in
-    let S = H.before.before.before.before.before.before.before.before.before.before.before in
-    let a = S.args in
-    let G = S.requires.numbered_pair in
+    let a = c.args in
+    let G = c.requires.numbered_pair in
     let k = length a.words.now in
-    let ew = E.extract2.ensures.0 ∙ ap (λ m. part_words m a.at a.neighbours2.now) S.requires.numbers_len.1 in
-    let en = E.extract2.ensures.1 ∙ ap (λ m. part_codes m a.at a.codes2.now) S.requires.numbers_len.1 in record { n_bound = (
-        S.requires.numbered_pair.few,
+    let ew = c.extract2.ensures.0 ∙ ap (λ m. part_words m a.at a.neighbours2.now) c.requires.numbers_len.1 in
+    let en = c.extract2.ensures.1 ∙ ap (λ m. part_codes m a.at a.codes2.now) c.requires.numbers_len.1 in record { n_bound = (
+        c.requires.numbered_pair.few,
         first-sound a.n a.neighbours.now a.codes.now a.neighbours2.now a.codes2.now
-            a.component k a.at G _ _ _ _ H.extract.ensures.0 H.extract.ensures.1 ew en,
+            a.component k a.at G _ _ _ _ c.extract.ensures.0 c.extract.ensures.1 ew en,
       ); sound_record = (
           second-sound a.n a.neighbours.now a.codes.now a.neighbours2.now a.codes2.now a.component
-              k a.at G _ _ _ _ H.extract.ensures.0 H.extract.ensures.1 ew en,
+              k a.at G _ _ _ _ c.extract.ensures.0 c.extract.ensures.1 ew en,
           first-connected a.n a.neighbours.now a.codes.now a.neighbours2.now a.codes2.now
-              a.component k a.at G _ _ _ _ H.extract.ensures.0 H.extract.ensures.1 ew en,
-        ); empty_from = S.requires.empty_from }
+              a.component k a.at G _ _ _ _ c.extract.ensures.0 c.extract.ensures.1 ew en,
+        ); empty_from = c.requires.empty_from }
 
 -- src/lib.rt:27:1
 -- src/lib.rt:27:1
@@ -57,13 +52,10 @@ search_records-requires c =
 -- src/lib.rt:27:1
 pub returns : goal.returns
 returns c =
-    let E = c.before.before.before.before.before.before.before.before.before.before.before in
-    let H = E.before.before.before.before.before.before.before in
-    let S = H.before.before.before.before.before.before.before.before.before.before.before in
-    let a = S.args in
-    let G = S.requires.numbered_pair in
+    let a = c.args in
+    let G = c.requires.numbered_pair in
     let k = length a.words.now in
-    let ew = E.extract2.ensures.0 ∙ ap (λ m. part_words m a.at a.neighbours2.now) S.requires.numbers_len.1 in
-    let en = E.extract2.ensures.1 ∙ ap (λ m. part_codes m a.at a.codes2.now) S.requires.numbers_len.1 in record { part_answer = part-answered a.n a.neighbours.now a.codes.now a.neighbours2.now a.codes2.now a.component k
-          a.at G _ _ _ _ H.extract.ensures.0 H.extract.ensures.1 ew en
+    let ew = c.extract2.ensures.0 ∙ ap (λ m. part_words m a.at a.neighbours2.now) c.requires.numbers_len.1 in
+    let en = c.extract2.ensures.1 ∙ ap (λ m. part_codes m a.at a.codes2.now) c.requires.numbers_len.1 in record { part_answer = part-answered a.n a.neighbours.now a.codes.now a.neighbours2.now a.codes2.now a.component k
+          a.at G _ _ _ _ c.extract.ensures.0 c.extract.ensures.1 ew en
           _ _ c.search_records.ensures.least_answer; empty_from_2 = c.search_records.ensures.empty_from_2 }

@@ -23,15 +23,14 @@ loop-i-smaller c = omega arith
 -- src/lib.rt:61:5
 pub loop-i-preserved : goal.loop-i-preserved
 loop-i-preserved c =
-    let S = c.before.before in (
+    (
       omega arith,
-      placing-step S.args.at S.args.chosen S.args.choice c.loop-i.whole S.args.k
-          c.loop-i.i S.requires.2 S.requires.1 c.loop-i-test.true c.loop-i.invariant.1,
+      placing-step c.args.at c.args.chosen c.args.choice c.loop-i.whole c.args.k
+          c.loop-i.i c.requires.2 c.requires.1 c.loop-i-test.true c.loop-i.invariant.1,
     )
 
 -- src/lib.rt:53:1
 pub returns : goal.returns
 returns c =
-    let S = c.before.before in
-    placing-end S.args.at S.args.chosen S.args.choice c.loop-i.whole S.args.k c.loop-i.i
+    placing-end c.args.at c.args.chosen c.args.choice c.loop-i.whole c.args.k c.loop-i.i
     c.loop-i.invariant.0 c.loop-i-test.false c.loop-i.invariant.1

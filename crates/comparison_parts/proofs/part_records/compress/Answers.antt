@@ -20,16 +20,14 @@ has-requires c = c.requires.1 c.loop-i.i c.loop-i-test.true
 -- src/lib.rt:44:5
 pub loop-i-preserved : goal.loop-i-preserved
 loop-i-preserved c =
-    let H = c.before in
-    let L = H.before.before in (
+    (
       omega arith,
-      compressed-more L.args.at L.args.w L.loop-i.bits L.loop-i.i _ _
-          L.loop-i.invariant.1 H.has.ensures c.flip_where-bits.ensures,
+      compressed-more c.args.at c.args.w c.loop-i.bits c.loop-i.i _ _
+          c.loop-i.invariant.1 c.has.ensures c.flip_where-bits.ensures,
     )
 
 -- src/lib.rt:38:1
 pub returns : goal.returns
 returns c =
-    let L = c.before in
-    compressed-all L.args.at L.args.w L.args.k L.loop-i.bits L.loop-i.i
-    L.loop-i.invariant.0 c.loop-i-test.false L.loop-i.invariant.1
+    compressed-all c.args.at c.args.w c.args.k c.loop-i.bits c.loop-i.i
+    c.loop-i.invariant.0 c.loop-i-test.false c.loop-i.invariant.1

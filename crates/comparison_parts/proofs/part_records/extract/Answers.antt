@@ -9,66 +9,55 @@ use Rattle.comparison_parts.proofs.part_records.extract.Goals as goal
 -- src/lib.rt:68:5
 pub loop-i-init : goal.loop-i-init
 loop-i-init c =
-    let S = c.before.before.before.before.before in
-    (fill_start _ _ S.args.words.now refl, fill_start _ _ S.args.numbers.now S.requires.words_len_bound.1)
+    (fill_start _ _ c.args.words.now refl, fill_start _ _ c.args.numbers.now c.requires.words_len_bound.1)
 
 -- src/lib.rt:69:17
 -- src/lib.rt:69:17
 -- src/lib.rt:70:29
 pub offset_bounds-neighbours-v : goal.offset_bounds-neighbours-v
 offset_bounds-neighbours-v c =
-    let S = c.before.before.before.before.before.before.before in
-    omega (arith, S.requires.neighbours_len_bound.0, S.requires.neighbours_len_bound.2 c.loop-i.i c.loop-i-test.true)
+    omega (arith, c.requires.neighbours_len_bound.0, c.requires.neighbours_len_bound.2 c.loop-i.i c.loop-i-test.true)
 
 -- src/lib.rt:70:29
 pub bounds-neighbours-v : goal.bounds-neighbours-v
 bounds-neighbours-v c =
-    let I = c.before.before in
-    let S = I.before.before.before.before.before.before in
-    S.requires.neighbours_len_bound.2 I.loop-i.i I.loop-i-test.true
+    c.requires.neighbours_len_bound.2 c.loop-i.i c.loop-i-test.true
 
 -- src/lib.rt:70:20
 pub compress-requires : goal.compress-requires
 compress-requires c =
-    let S = c.before.before.before.before.before.before.before.before in
-    (S.requires.words_len_bound.0, λ i l. omega (arith, S.requires.neighbours_len_bound.0, S.requires.neighbours_len_bound.2 i l))
+    (c.requires.words_len_bound.0, λ i l. omega (arith, c.requires.neighbours_len_bound.0, c.requires.neighbours_len_bound.2 i l))
 
 -- src/lib.rt:70:9
 -- src/lib.rt:70:9
 pub bounds-words-i : goal.bounds-words-i
 bounds-words-i c =
-    let I = c.before.before.before in
-    subst (λ m. I.loop-i.i < m) (sym I.loop-i.invariant.0.long) I.loop-i-test.true
+    subst (λ m. c.loop-i.i < m) (sym c.loop-i.invariant.0.long) c.loop-i-test.true
 
 -- src/lib.rt:71:22
 pub bounds-codes-v : goal.bounds-codes-v
 bounds-codes-v c =
-    let I = c.before.before.before.before in
-    let S = I.before.before.before.before.before.before in
-    subst (λ m. get_or S.args.at I.loop-i.i 0 < m) (sym S.requires.neighbours_len_bound.1)
-    (S.requires.neighbours_len_bound.2 I.loop-i.i I.loop-i-test.true)
+    subst (λ m. get_or c.args.at c.loop-i.i 0 < m) (sym c.requires.neighbours_len_bound.1)
+    (c.requires.neighbours_len_bound.2 c.loop-i.i c.loop-i-test.true)
 
 -- src/lib.rt:71:9
 pub bounds-numbers-i : goal.bounds-numbers-i
 bounds-numbers-i c =
-    let I = c.before.before.before.before in
-    subst (λ m. I.loop-i.i < m) (sym I.loop-i.invariant.1.long) I.loop-i-test.true
+    subst (λ m. c.loop-i.i < m) (sym c.loop-i.invariant.1.long) c.loop-i-test.true
 
 -- src/lib.rt:72:9
 -- src/lib.rt:68:5
 pub loop-i-smaller : goal.loop-i-smaller
 loop-i-smaller c =
-    let I = c.before.before.before.before in
-    omega (arith, I.loop-i-test.true)
+    omega (arith, c.loop-i-test.true)
 
 -- src/lib.rt:68:5
 pub loop-i-preserved : goal.loop-i-preserved
 loop-i-preserved c =
-    let I = c.before.before.before.before in
-    let L = I.before in (
-      fill_step _ _ L.loop-i.words L.loop-i.i _ L.loop-i.invariant.0 I.loop-i-test.true
+    (
+      fill_step _ _ c.loop-i.words c.loop-i.i _ c.loop-i.invariant.0 c.loop-i-test.true
           c.compress.ensures,
-      fill_step _ _ L.loop-i.numbers L.loop-i.i _ L.loop-i.invariant.1 I.loop-i-test.true refl,
+      fill_step _ _ c.loop-i.numbers c.loop-i.i _ c.loop-i.invariant.1 c.loop-i-test.true refl,
     )
 
 -- src/lib.rt:53:1
@@ -78,13 +67,12 @@ shape_of-words c = c.loop-i.invariant.0.long
 -- src/lib.rt:53:1
 pub shape_of-numbers : goal.shape_of-numbers
 shape_of-numbers c =
-    let S = c.before.before.before.before.before.before.before in
-    c.loop-i.invariant.1.long ∙ sym S.requires.words_len_bound.1
+    c.loop-i.invariant.1.long ∙ sym c.requires.words_len_bound.1
 
 -- src/lib.rt:53:1
 pub returns : goal.returns
 returns c =
-    let L = c.before.before in (
-      fill_end _ _ L.loop-i.words L.loop-i.i L.loop-i.invariant.0 c.loop-i-test.false,
-      fill_end _ _ L.loop-i.numbers L.loop-i.i L.loop-i.invariant.1 c.loop-i-test.false,
+    (
+      fill_end _ _ c.loop-i.words c.loop-i.i c.loop-i.invariant.0 c.loop-i-test.false,
+      fill_end _ _ c.loop-i.numbers c.loop-i.i c.loop-i.invariant.1 c.loop-i-test.false,
     )

@@ -28,10 +28,9 @@ bounds-at-k c =
 -- src/lib.rt:31:9
 pub overflow_add-k : goal.overflow_add-k
 overflow_add-k c =
-    let L = c.before.before in
     omega (
       arith,
-      room L.args.component L.loop-rest.at L.loop-rest.k L.loop-rest.rest L.loop-rest.invariant
+      room c.args.component c.loop-rest.at c.loop-rest.k c.loop-rest.rest c.loop-rest.invariant
           c.loop-rest-test.true _ c.smallest-q.ensures.0,
     )
 
@@ -46,20 +45,16 @@ flip-rest-requires c =
 -- src/lib.rt:28:5
 pub loop-rest-smaller : goal.loop-rest-smaller
 loop-rest-smaller c =
-    let M = c.before in
-    let L = M.before.before in
-    subst (λ v. v < L.loop-rest.rest) (sym c.flip-rest.ensures)
-    (flip-less L.loop-rest.rest _ (place-taken L.args.component L.loop-rest.at L.loop-rest.k L.loop-rest.rest
-    L.loop-rest.invariant M.loop-rest-test.true _ M.smallest-q.ensures.0))
+    subst (λ v. v < c.loop-rest.rest) (sym c.flip-rest.ensures)
+    (flip-less c.loop-rest.rest _ (place-taken c.args.component c.loop-rest.at c.loop-rest.k c.loop-rest.rest
+    c.loop-rest.invariant c.loop-rest-test.true _ c.smallest-q.ensures.0))
 
 -- src/lib.rt:28:5
 pub loop-rest-preserved : goal.loop-rest-preserved
 loop-rest-preserved c =
-    let M = c.before in
-    let L = M.before.before in
-    subst (Listing L.args.component _ _) (sym c.flip-rest.ensures)
-    (listing_step L.args.component L.loop-rest.at L.loop-rest.k L.loop-rest.rest L.loop-rest.invariant
-    M.loop-rest-test.true _ M.smallest-q.ensures.0)
+    subst (Listing c.args.component _ _) (sym c.flip-rest.ensures)
+    (listing_step c.args.component c.loop-rest.at c.loop-rest.k c.loop-rest.rest c.loop-rest.invariant
+    c.loop-rest-test.true _ c.smallest-q.ensures.0)
 
 -- src/lib.rt:21:1
 pub returns : goal.returns

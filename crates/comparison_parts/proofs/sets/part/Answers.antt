@@ -11,32 +11,28 @@ use Rattle.comparison_parts.proofs.sets.part.Goals as goal
 -- src/lib.rt:39:5
 pub loop-next-init : goal.loop-next-init
 loop-next-init c =
-    let S = c.before.before.before.before in
-    let nb = S.args.neighbours.now in
-    grow-start (length nb) (graph_in nb) S.requires.simple S.args.q S.requires.neighbours_len_bound.1 _ _ c.single-reached.ensures
+    let nb = c.args.neighbours.now in
+    grow-start (length nb) (graph_in nb) c.requires.simple c.args.q c.requires.neighbours_len_bound.1 _ _ c.single-reached.ensures
     c.spread-next.ensures
 
 -- src/lib.rt:41:9
 -- src/lib.rt:39:5
 pub loop-next-smaller : goal.loop-next-smaller
 loop-next-smaller c =
-    let S = c.before.before.before.before.before.before.before in
-    let nb = S.args.neighbours.now in
-    grow-less (length nb) (graph_in nb) S.requires.simple S.args.q S.requires.neighbours_len_bound.1 _ _ c.loop-next.invariant
+    let nb = c.args.neighbours.now in
+    grow-less (length nb) (graph_in nb) c.requires.simple c.args.q c.requires.neighbours_len_bound.1 _ _ c.loop-next.invariant
     c.loop-next-test.true
 
 -- src/lib.rt:39:5
 pub loop-next-preserved : goal.loop-next-preserved
 loop-next-preserved c =
-    let S = c.before.before.before.before.before.before.before in
-    let nb = S.args.neighbours.now in
-    grow-more (length nb) (graph_in nb) S.requires.simple S.args.q S.requires.neighbours_len_bound.1 _ _ c.loop-next.invariant _
+    let nb = c.args.neighbours.now in
+    grow-more (length nb) (graph_in nb) c.requires.simple c.args.q c.requires.neighbours_len_bound.1 _ _ c.loop-next.invariant _
     c.spread-next-in-loop-next.ensures
 
 -- src/lib.rt:32:1
 pub returns : goal.returns
 returns c =
-    let S = c.before.before.before.before.before.before in
-    let nb = S.args.neighbours.now in
-    grown (length nb) (graph_in nb) S.requires.simple S.args.q S.requires.neighbours_len_bound.1 _ _ c.loop-next.invariant
+    let nb = c.args.neighbours.now in
+    grown (length nb) (graph_in nb) c.requires.simple c.args.q c.requires.neighbours_len_bound.1 _ _ c.loop-next.invariant
     c.loop-next-test.false

@@ -16,29 +16,23 @@ loop-q-init c = seen_none _ _
 pub returns-then-count-gt20 : goal.returns-then-count-gt20
 unfolding part_above
 returns-then-count-gt20 c =
-    let P = c.before.before.before in
-    let H = P.before.before in
-    let L = H.before.before in
-    let nb = L.args.neighbours.now in
+    let nb = c.args.neighbours.now in
     let n = length nb in
-    found_at n (is_large n (graph_in nb)) L.loop-q.q H.loop-q-test.true
-    (large_is n (graph_in nb) L.loop-q.q _ _ P.part-component.ensures c.count.ensures.0)
+    found_at n (is_large n (graph_in nb)) c.loop-q.q c.loop-q-test.true
+    (large_is n (graph_in nb) c.loop-q.q _ _ c.part-component.ensures c.count.ensures.0)
     (lt-ltb 20 _ c.if-count-gt20.true)
 
 pub loop-q-preserved : goal.loop-q-preserved
 loop-q-preserved c =
-    let H = c.before.before in
-    let L = H.before.before in
-    let S = L.before.before in
-    let nb = S.args.neighbours.now in
+    let nb = c.args.neighbours.now in
     let n = length nb in
-    let more = H.loop-q-test.true in
+    let more = c.loop-q-test.true in
     ⊎_elim
-    (λ w. seen_more n (graph_in nb) L.loop-q.seen L.loop-q.q L.loop-q.invariant more S.requires.simple w.1.result
+    (λ w. seen_more n (graph_in nb) c.loop-q.seen c.loop-q.q c.loop-q.invariant more c.requires.simple w.1.result
     w.2.result _ w.1.ensures w.2.ensures.0 (le-ltb 20 _ w.3.left) w.4)
-    (λ w. subst (λ s. Seen n (graph_in nb) s (L.loop-q.q + 1)) (sym w.1)
-    (seen-again n (graph_in nb) L.loop-q.seen L.loop-q.q L.loop-q.invariant more
-    (sym H.has.ensures ∙ not-false _ w.0.left)))
+    (λ w. subst (λ s. Seen n (graph_in nb) s (c.loop-q.q + 1)) (sym w.1)
+    (seen-again n (graph_in nb) c.loop-q.seen c.loop-q.q c.loop-q.invariant more
+    (sym c.has.ensures ∙ not-false _ w.0.left)))
     c.if-not-has.branch
 
 pub returns : goal.returns

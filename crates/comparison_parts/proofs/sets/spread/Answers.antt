@@ -18,14 +18,13 @@ loop-i-init c = (zero-le, passed_none c.args.neighbours.now c.args.marked)
 -- src/lib.rt:22:5
 pub loop-i-preserved : goal.loop-i-preserved
 loop-i-preserved c =
-    let L = c.before.before.before.before in
-    let a = L.args in
+    let a = c.args in
     let seen = sym c.has.ensures in (
       omega arith,
       ⊎_elim
-          (λ w. passed-joined a.neighbours.now a.marked L.loop-i.reached L.loop-i.i _ L.loop-i.invariant.1
-          (seen ∙ w.0.taken) w.2)
-          (λ w. passed-kept a.neighbours.now a.marked L.loop-i.reached L.loop-i.i _ L.loop-i.invariant.1
+          (λ w. passed-joined a.neighbours.now a.marked c.loop-i.reached c.loop-i.i _ c.loop-i.invariant.1
+          (seen ∙ w.0.true) w.2)
+          (λ w. passed-kept a.neighbours.now a.marked c.loop-i.reached c.loop-i.i _ c.loop-i.invariant.1
           (seen ∙ w.0.left) w.1)
           c.if-has.branch,
     )

@@ -16,10 +16,9 @@ place-next-requires c = omega (arith, c.requires.0, c.loop-q-test.true)
 
 pub loop-q-preserved : goal.loop-q-preserved
 loop-q-preserved c =
-    let s = c.before.before.before.before in
     let l = c.loop-q in
     let more = c.loop-q-test.true in
-    class-next s.args.n s.args.choice l.q l.words c.place-next.result more c.class_bits-four.result
+    class-next c.args.n c.args.choice l.q l.words c.place-next.result more c.class_bits-four.result
     c.place-next.ensures c.class_bits-four.ensures l.invariant
 
 pub returns : goal.returns

@@ -12,10 +12,9 @@ place_signs-next-requires c = omega (arith, c.requires, c.loop-q-test.true)
 
 pub loop-q-preserved : goal.loop-q-preserved
 loop-q-preserved c =
-    let s = c.before.before.before in
     let l = c.loop-q in
     let more = c.loop-q-test.true in
-    sign-next s.args.n s.args.choice l.q l.words c.place_signs-next.result more c.place_signs-next.ensures
+    sign-next c.args.n c.args.choice l.q l.words c.place_signs-next.result more c.place_signs-next.ensures
     l.invariant
 
 pub returns : goal.returns

@@ -4,8 +4,7 @@ use Rattle.comparison_search.proofs.assignments.with_class.Goals as goal
 
 pub returns : goal.returns
 returns c n choice l long h =
-    let s = c.before.before in
-    let a = s.args in
+    let a = c.args in
     let four = c.class_bits-four in
     class-placed n choice a.q a.w c.place.result l four.result a.v c.place.ensures long
     four.ensures h

@@ -14,8 +14,7 @@ loop-v-init c = λ n choice l long h. none-missed _ _ _ _ _
 
 pub with_class-w-requires : goal.with_class-w-requires
 with_class-w-requires c =
-    let s = c.before.before in
-    (s.requires, omega (arith, c.loop-v-test.true))
+    (c.requires, omega (arith, c.loop-v-test.true))
 
 pub returns-then-not-broken : goal.returns-then-not-broken
 returns-then-not-broken c =

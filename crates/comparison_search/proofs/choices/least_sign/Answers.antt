@@ -13,8 +13,7 @@ loop-v-init c = λ n choice l long h. none-missed _ _ _ _ _
 
 pub with_signs-w-requires : goal.with_signs-w-requires
 with_signs-w-requires c =
-    let s = c.before.before in
-    s.requires
+    c.requires
 
 pub returns-then-not-broken : goal.returns-then-not-broken
 returns-then-not-broken c =

@@ -20,28 +20,27 @@ loop-j-init c = none-multiplied _ _ _ _ (Pauli-path refl zero_bit zero_bit)
 pub times-h-requires : goal.times-h-requires
 times-h-requires c =
     let l = c.loop-j in
-    let s = c.before.before.before.before.before.before in
-    let proper = framed-proper s.args.n (generators_of (generators_in s.args.second.now)) s.requires.1.0
-    s.requires.1.1 in
+    
+    let proper = framed-proper c.args.n (generators_of (generators_in c.args.second.now)) c.requires.1.0
+    c.requires.1.1 in
     subst (λ g. anticommute 64 (generator_of l.h) (generator_of g) ≡ false) (sym c.generator_at-g.ensures)
-    (next-commutes s.args.n (omega arith) (generators_of (generators_in s.args.second.now)) proper.within
+    (next-commutes c.args.n (omega arith) (generators_of (generators_in c.args.second.now)) proper.within
     (bit c.act_on-undone.result.x) l.j (generator_of l.h) l.invariant
     c.loop-j-test.true proper.commuting)
 
 pub loop-j-preserved : goal.loop-j-preserved
 loop-j-preserved c =
-    let s = c.before.before.before.before.before in
-    let a = s.args in
+    let a = c.args in
     let l = c.loop-j in
     let w = bit c.act_on-undone.result.x in
     let test = c.has.ensures in
     let rows = generators_of (generators_in a.second.now) in
-    let proper = framed-proper a.n rows s.requires.1.0 s.requires.1.1 in
+    let proper = framed-proper a.n rows c.requires.1.0 c.requires.1.1 in
     let more = c.loop-j-test.true in
     ⊎_elim
     (λ k. subst (λ h. Multiplied a.n rows w (l.j + 1) (generator_of h)) (sym k.3)
     (multiplied-on a.n (omega arith) rows proper.within w l.j (generator_of l.h) l.invariant more _
-    (sym test ∙ k.0.taken) (k.2.ensures ∙ ap (λ g. mul 64 (generator_of l.h) (generator_of g)) k.1.ensures)))
+    (sym test ∙ k.0.true) (k.2.ensures ∙ ap (λ g. mul 64 (generator_of l.h) (generator_of g)) k.1.ensures)))
     (λ k. subst (λ h. Multiplied a.n rows w (l.j + 1) (generator_of h)) (sym k.1)
     (multiplied-off a.n (omega arith) rows proper.within w l.j (generator_of l.h) l.invariant more
     (sym test ∙ k.0.left)))
@@ -49,9 +48,8 @@ loop-j-preserved c =
 
 pub returns : goal.returns
 returns c =
-    let s = c.before.before.before in
-    guessed s.args.n (omega arith) (generators_of (generators_in s.args.second.now)) s.requires.1.0
-    s.requires.1.1
-    (generator_of s.args.p) (generator_of c.act_on-undone.result)
-    (c.act_on-undone.ensures s.requires.1.0 s.requires.1.2) c.loop-j.j _ c.loop-j-test.false
+    guessed c.args.n (omega arith) (generators_of (generators_in c.args.second.now)) c.requires.1.0
+    c.requires.1.1
+    (generator_of c.args.p) (generator_of c.act_on-undone.result)
+    (c.act_on-undone.ensures c.requires.1.0 c.requires.1.2) c.loop-j.j _ c.loop-j-test.false
     c.loop-j.invariant

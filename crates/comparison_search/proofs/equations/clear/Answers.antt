@@ -13,11 +13,11 @@ use Rattle.comparison_search.proofs.equations.clear.Goals as goal
 
 pub loop-k-init : goal.loop-k-init
 loop-k-init c =
-    let s = c.before in (
-      s.requires.1,
-      s.requires.2,
-      clear-start (equations_in s.args.table.now) s.requires.0 s.args.i _
-          (sym (row_at s.args.table.now s.args.i)),
+    (
+      c.requires.1,
+      c.requires.2,
+      clear-start (equations_in c.args.table.now) c.requires.0 c.args.i _
+          (sym (row_at c.args.table.now c.args.i)),
     )
 
 pub bounds-table-k : goal.bounds-table-k
@@ -58,7 +58,7 @@ loop-k-preserved c =
           (sym (ap equations_in w.2 ∙ row-set l.table l.k w.1.result))
           (clear-added first (equations_in l.table) a.i l.k p l.invariant.2 (omega (arith, more, l.invariant.1)) e
           (equation_of w.1.result) (sym (row_at l.table l.k))
-          (sym c.has_unknown.ensures ∙ w.0.taken) w.1.ensures))
+          (sym c.has_unknown.ensures ∙ w.0.true) w.1.ensures))
           (λ w. subst (λ t. Clearing first (equations_in t) a.i (l.k + 1) p) (sym w.1)
           (clear_kept first (equations_in l.table) a.i l.k p l.invariant.2))
           c.if-has_unknown.branch,

@@ -27,10 +27,9 @@ store-requires-2 c = c.requires.1
 
 pub clear-requires : goal.clear-requires
 clear-requires c =
-    let s = c.before.before.before.before.before.before.before.before.before.before.before.before.before.before in
     let i = c.bound-i.ensures.0 in
     let more = c.if-i-eq0.false in
-    (c.store-2.ensures.triangular, omega (arith, i, more), omega (arith, s.pre.0))
+    (c.store-2.ensures.triangular, omega (arith, i, more), omega (arith, c.requires.0))
 
 pub returns : goal.returns
 returns c =

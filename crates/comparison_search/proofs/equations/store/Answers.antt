@@ -13,11 +13,10 @@ use Rattle.comparison_search.proofs.equations.store.Goals as goal
 
 pub loop-i-init : goal.loop-i-init
 loop-i-init c =
-    let s = c.before in
     let B = c.bound-i.ensures.1 in (
       c.bound-i.ensures.0,
       B,
-      insert-start (equations_in s.args.table.now) (equation_of s.args.e) c.bound-i.result B.above,
+      insert-start (equations_in c.args.table.now) (equation_of c.args.e) c.bound-i.result B.above,
     )
 
 pub bounds-table-i : goal.bounds-table-i
@@ -28,13 +27,12 @@ bounds-table-i-then-empty c = omega (arith, c.loop-i.invariant.0, c.loop-i-test.
 
 pub returns-then-empty : goal.returns-then-empty
 returns-then-empty c =
-    let s = c.before.before.before.before.before.before in
     let l = c.loop-i in
     let more = c.loop-i-test.true in
     let p = get_or l.table (l.i - 1) [] in
-    subst (Inserted (equations_in s.args.table.now) (equation_of s.args.e))
+    subst (Inserted (equations_in c.args.table.now) (equation_of c.args.e))
     (sym (row-set l.table (l.i - 1) l.left))
-    (insert-stored (equations_in s.args.table.now) (equation_of s.args.e) s.requires (equations_in l.table)
+    (insert-stored (equations_in c.args.table.now) (equation_of c.args.e) c.requires (equations_in l.table)
     (equation_of l.left) l.i more l.invariant.2 (omega (arith, l.invariant.0, more)) (l.invariant.1.last more)
     (equation_of p)
     (sym (row_at l.table (l.i - 1)))
@@ -42,12 +40,11 @@ returns-then-empty c =
 
 pub loop-i-smaller : goal.loop-i-smaller
 loop-i-smaller c =
-    let s = c.before.before.before.before.before.before.before.before in
     let l = c.loop-i in
     let more = c.loop-i-test.true in
     let p = get_or l.table (l.i - 1) [] in
     let S =
-    insert-added (equations_in s.args.table.now) (equation_of s.args.e) s.requires (equations_in l.table)
+    insert-added (equations_in c.args.table.now) (equation_of c.args.e) c.requires (equations_in l.table)
     (equation_of l.left) l.i more l.invariant.2 (l.invariant.1.last more) (equation_of p)
     (equation_of c.add-sum.result)
     (sym (row_at l.table (l.i - 1)))
@@ -59,12 +56,11 @@ loop-i-smaller c =
 
 pub loop-i-preserved : goal.loop-i-preserved
 loop-i-preserved c =
-    let s = c.before.before.before.before.before.before.before.before in
     let l = c.loop-i in
     let more = c.loop-i-test.true in
     let p = get_or l.table (l.i - 1) [] in
     let S =
-    insert-added (equations_in s.args.table.now) (equation_of s.args.e) s.requires (equations_in l.table)
+    insert-added (equations_in c.args.table.now) (equation_of c.args.e) c.requires (equations_in l.table)
     (equation_of l.left) l.i more l.invariant.2 (l.invariant.1.last more) (equation_of p)
     (equation_of c.add-sum.result)
     (sym (row_at l.table (l.i - 1)))
@@ -79,10 +75,9 @@ loop-i-preserved c =
 
 pub returns : goal.returns
 returns c =
-    let s = c.before.before.before in
     let l = c.loop-i in
-    insert-nothing (equations_in s.args.table.now) (equation_of s.args.e) s.requires (equations_in l.table)
+    insert-nothing (equations_in c.args.table.now) (equation_of c.args.e) c.requires (equations_in l.table)
     (equation_of l.left)
-    (subst (Inserting (equations_in s.args.table.now) (equation_of s.args.e) (equations_in l.table)
+    (subst (Inserting (equations_in c.args.table.now) (equation_of c.args.e) (equations_in l.table)
     (equation_of l.left))
     (omega (arith, c.loop-i-test.false)) l.invariant.2)

@@ -11,9 +11,8 @@ loop-q-init c = fill_start _ _ _ refl
 
 pub induced_code-requires : goal.induced_code-requires
 induced_code-requires c =
-    let s = c.before.before.before.before.before.before.before.before.before.before in
     let q = c.loop-q.q in
-    (s.requires.codes.0 q, s.requires.codes.1 q, s.requires.codes.2 q)
+    (c.requires.codes.0 q, c.requires.codes.1 q, c.requires.codes.2 q)
 
 pub loop-q-smaller : goal.loop-q-smaller
 loop-q-smaller c =

@@ -16,21 +16,20 @@ action_of-by-requires c =
 
 pub loop-j-init : goal.loop-j-init
 loop-j-init c =
-    let s = c.before.before.before.before in
-    none_filled no_generator 64 _ _ (generators-long s.args.rows.now ∙ s.requires.2)
+    none_filled no_generator 64 _ _ (generators-long c.args.rows.now ∙ c.requires.2)
 
 pub loop-j-preserved : goal.loop-j-preserved
 loop-j-preserved c =
     let l = c.loop-j in
-    let A = c.before.before.before.before.before.before.before in
-    let s = A.before.before.before in
-    let a = s.args in
+    
+    
+    let a = c.args in
     let more = c.loop-j-test.true in
     generator-stored 64 _ l.rows l.j c.row_of.result c.act_on-sent.result l.invariant
-    (omega (arith, more, s.requires.0)) c.row_of.ensures
-    (generator-sent a.n s.requires.0 a.neighbours.now a.codes.now s.requires.1 l.j more _
+    (omega (arith, more, c.requires.0)) c.row_of.ensures
+    (generator-sent a.n c.requires.0 a.neighbours.now a.codes.now c.requires.1 l.j more _
     c.single.ensures _ (c.act_on-sent.ensures (codes_of a.codes.now)
-    A.action_of-by.ensures))
+    c.action_of-by.ensures))
 
 pub returns : goal.returns
 returns c =

@@ -15,12 +15,11 @@ inverse-undone-requires c = c.requires.2 c.loop-q.q
 
 pub loop-q-preserved : goal.loop-q-preserved
 loop-q-preserved c =
-    let s = c.before.before.before.before.before.before in
     let l = c.loop-q in
     let more = c.loop-q-test.true in
-    let fits : l.q < length l.all = omega (arith, more, l.invariant.1.long, s.requires.0) in (
+    let fits : l.q < length l.all = omega (arith, more, l.invariant.1.long, c.requires.0) in (
       at_set l.all l.q _ fits (λ k. k < 24) l.invariant.0 c.inverse-undone.ensures.1,
-      fill_step 64 _ l.all l.q _ l.invariant.1 (omega (arith, more, s.requires.0)) c.inverse-undone.ensures.0,
+      fill_step 64 _ l.all l.q _ l.invariant.1 (omega (arith, more, c.requires.0)) c.inverse-undone.ensures.0,
     )
 
 pub returns : goal.returns

@@ -25,56 +25,50 @@ slice_bounds-action_of-end c =
 
 pub action_of-by-requires : goal.action_of-by-requires
 action_of-by-requires c =
-    let s = c.before in
-    let few = s.requires.setting.0.few in (
-      omega (arith, few, part-long s.args.n s.args.choice few s.well_formed.1.1.1.1.1.0.1.0.1),
-      first-sound s.args.n s.args.choice s.requires.setting.1,
+    let few = c.requires.setting.0.few in (
+      omega (arith, few, part-long c.args.n c.args.choice few c.well_formed.1.1.1.1.1.0.1.0.1),
+      first-sound c.args.n c.args.choice c.requires.setting.1,
     )
 
 pub slice_bounds-action_of-end-2 : goal.slice_bounds-action_of-end-2
 slice_bounds-action_of-end-2 c =
-    let s = c.before.before.before in
-    sym (part-long _ _ s.requires.setting.0.few s.well_formed.1.1.1.1.0.1.0.1)
+    sym (part-long _ _ c.requires.setting.0.few c.well_formed.1.1.1.1.0.1.0.1)
 
 pub action_of-undone-requires : goal.action_of-undone-requires
 action_of-undone-requires c =
-    let s = c.before.before.before in
-    let few = s.requires.setting.0.few in (
-      omega (arith, few, part-long s.args.n s.args.frame few s.well_formed.1.1.1.1.0.1.0.1),
-      first-sound s.args.n s.args.frame s.requires.setting.0.codes,
+    let few = c.requires.setting.0.few in (
+      omega (arith, few, part-long c.args.n c.args.frame few c.well_formed.1.1.1.1.0.1.0.1),
+      first-sound c.args.n c.args.frame c.requires.setting.0.codes,
     )
 
 pub loop-i-init : goal.loop-i-init
 loop-i-init c =
-    let s = c.before.before.before.before in
-    let a = s.args in (
+    let a = c.args in (
       zero-le,
       (λ choice frame S sent bare acts. sign-start a.n (generators_in a.first.now) (generators_in a.second.now)
           frame S (codes_of choice) sent
-          (equations_in a.table.now) (empty-triangular _ s.requires.sent_up_to_sign.1)
-          (empty-solved _ s.requires.sent_up_to_sign.1)),
+          (equations_in a.table.now) (empty-triangular _ c.requires.sent_up_to_sign.1)
+          (empty-solved _ c.requires.sent_up_to_sign.1)),
     )
 
 pub element-h-requires : goal.element-h-requires
 element-h-requires c =
-    let s = c.before.before.before.before.before.before.before.before in
-    let S = s.requires.setting.0 in (
+    let S = c.requires.setting.0 in (
       S.few,
       (
-        codes_of (take s.args.n s.args.frame),
-        first_frame s.args.n s.args.frame _ S.framed,
+        codes_of (take c.args.n c.args.frame),
+        first_frame c.args.n c.args.frame _ S.framed,
         c.action_of-undone.ensures,
       ),
     )
 
 pub insert-requires : goal.insert-requires
 insert-requires c =
-    let s = c.before.before.before.before.before.before.before.before.before.before.before.before.before in
-    let a = s.args in
+    let a = c.args in
     let l = c.loop-i in
-    let T = l.invariant.1 s.args.choice s.args.frame s.requires.setting.0 s.requires.sent_up_to_sign.0 s.requires.setting.2
+    let T = l.invariant.1 c.args.choice c.args.frame c.requires.setting.0 c.requires.sent_up_to_sign.0 c.requires.setting.2
     c.action_of-by.ensures in
-    (s.requires.setting.0.few, T.0.triangular)
+    (c.requires.setting.0.few, T.0.triangular)
 
 pub overflow_add-i : goal.overflow_add-i
 overflow_add-i c =
@@ -108,11 +102,10 @@ loop-i-preserved c =
 
 pub returns : goal.returns
 returns c =
-    let s = c.before.before.before.before.before.before in
-    let a = s.args in
+    let a = c.args in
     let l = c.loop-i in
-    subst (λ k. SignTable a.n (generators_in a.first.now) (generators_in a.second.now) (codes_of s.args.choice) k
+    subst (λ k. SignTable a.n (generators_in a.first.now) (generators_in a.second.now) (codes_of c.args.choice) k
     (equations_in l.table))
     (le_antisymm l.invariant.0 c.loop-i-test.false)
-    (l.invariant.1 s.args.choice s.args.frame s.requires.setting.0 s.requires.sent_up_to_sign.0 s.requires.setting.2
+    (l.invariant.1 c.args.choice c.args.frame c.requires.setting.0 c.requires.sent_up_to_sign.0 c.requires.setting.2
     c.action_of-by.ensures)

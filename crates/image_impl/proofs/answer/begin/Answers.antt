@@ -26,33 +26,27 @@ c_bit-requires c = c.requires.1 c.loop-q.q
 
 pub flip_where-c-requires : goal.flip_where-c-requires
 flip_where-c-requires c =
-    let inside = c.before.before.before in
-    omega (arith, inside.loop-q-test.true, inside.requires.0)
+    omega (arith, c.loop-q-test.true, c.requires.0)
 
 pub d_bit-requires : goal.d_bit-requires
 d_bit-requires c =
-    let l = c.before.before.before.before.before in
-    l.requires.1 l.loop-q.q
+    c.requires.1 c.loop-q.q
 
 pub flip_where-d-requires : goal.flip_where-d-requires
 flip_where-d-requires c =
-    let inside = c.before.before.before.before.before in
-    omega (arith, inside.loop-q-test.true, inside.requires.0)
+    omega (arith, c.loop-q-test.true, c.requires.0)
 
 pub loop-q-smaller : goal.loop-q-smaller
 loop-q-smaller c = omega (arith, c.loop-q-test.true)
 
 pub loop-q-preserved : goal.loop-q-preserved
 loop-q-preserved c =
-    let at_c = c.before.before.before.before in
-    let state = at_c.before.before.before in
-    let l = state.loop-q in
-    let all = state.args.codes.now in (
-      bits-one all bit_c l.c l.q _ _ l.invariant.0 at_c.c_bit.ensures c.flip_where-c.ensures,
+    let l = c.loop-q in
+    let all = c.args.codes.now in (
+      bits-one all bit_c l.c l.q _ _ l.invariant.0 c.c_bit.ensures c.flip_where-c.ensures,
       bits-one all bit_d l.d l.q _ _ l.invariant.1 c.d_bit.ensures c.flip_where-d.ensures,
     )
 
 pub returns : goal.returns
 returns c =
-    let state = c.before.before in
-    let l = state.loop-q in record { count_value = refl; by_index = begun state.args.codes.now l.c l.d l.q l.invariant.0 l.invariant.1 c.loop-q-test.false }
+    let l = c.loop-q in record { count_value = refl; by_index = begun c.args.codes.now l.c l.d l.q l.invariant.0 l.invariant.1 c.loop-q-test.false }

@@ -13,19 +13,15 @@ slice_bounds-image_in-end-2 c = sym (part-long _ _ c.requires.upto refl)
 
 pub image_in-told-requires : goal.image_in-told-requires
 image_in-told-requires c =
-    let A = c.requires in (
-      accepted-unrefused _ _ _ A,
-      (
+    let A = c.requires in record { unrefused = accepted-unrefused _ _ _ A; words_len = (
         part-long _ _ A.upto refl ∙ sym A.neighbours-length,
         part-long _ _ A.upto refl ∙ sym A.neighbours-length,
         refl,
-      ),
-    )
+      ) }
 
 pub returns : goal.returns
 returns c =
-    let called = c.before.before.before.before in
-    let A = called.requires in
-    answered-longer _ _ _ A _ _ _ _ _ called.image_in-told.ensures _ _
-    (called.image_in-told.auto.1.1.0 ∙ part-long _ _ A.upto refl)
-    (called.image_in-told.auto.1.1.1.0 ∙ part-long _ _ A.upto refl)
+    let A = c.requires in
+    answered-longer _ _ _ A _ _ _ _ _ c.image_in-told.ensures _ _
+    (c.image_in-told.auto.1.1.0 ∙ part-long _ _ A.upto refl)
+    (c.image_in-told.auto.1.1.1.0 ∙ part-long _ _ A.upto refl)

@@ -16,21 +16,18 @@ abbrev AfterActionOfLeft : Type 0
 AfterActionOfLeft = lts.After-action_of tie.the-claims reads.Pre reads.Post tie.handed_clauses
 
 pub copy_record-requires : goal.copy_record-requires
-copy_record-requires c = let s = c.before.before.before.before.before.before.before.before in record { codes_len = unrefused-long _ _ s.requires.unrefused; words_len = (s.requires.words_len.0, s.requires.words_len.1) }
+copy_record-requires c = record { codes_len = unrefused-long _ _ c.requires.unrefused; words_len = (c.requires.words_len.0, c.requires.words_len.1) }
 
 pub begin-requires : goal.begin-requires
 begin-requires c =
-    let copied = c.before.before.before.before.before.before.before.before.before in
-    let s = copied.before.before.before.before.before.before.before.before in
-    unrefused-codes _ _ (copied-unrefused copied.copy-record.ensures s.requires.unrefused)
+    unrefused-codes _ _ (copied-unrefused c.copy-record.ensures c.requires.unrefused)
 
 pub run_rule-end-requires : goal.run_rule-end-requires
 run_rule-end-requires c =
-    let copied = c.before.before.before.before.before.before.before.before.before.before in
-    let s = copied.before.before.before.before.before.before.before.before in (
+    (
       c.begin.ensures.count_value,
-      c.begin.ensures.by_index _ _ (copied-unrefused copied.copy-record.ensures s.requires.unrefused)
-          s.requires.words_len.2,
+      c.begin.ensures.by_index _ _ (copied-unrefused c.copy-record.ensures c.requires.unrefused)
+          c.requires.words_len.2,
     )
 
 pub action_of-left-requires : goal.action_of-left-requires
@@ -45,19 +42,13 @@ sign_bytes-requires c =
 
 pub shape_of-words : goal.shape_of-words
 shape_of-words c =
-    let ran = c.before.before.before.before.before.before.before.before.before.before.before.before.before.before.before.before in
-    let copied = ran.before.before.before.before.before.before.before.before.before.before in
-    let s = copied.before.before.before.before.before.before.before.before in
-    ran.run-rule.ensures.tracking.long ∙ ap length copied.copy-record.ensures.0 ∙ sym s.pre.1.0
+    c.run-rule.ensures.tracking.long ∙ ap length c.copy-record.ensures.0 ∙ sym c.requires.words_len.0
 
 pub shape_of-bytes : goal.shape_of-bytes
 shape_of-bytes c =
-    let ran = c.before.before.before.before.before.before.before.before.before.before.before.before.before.before.before.before in
-    let copied = ran.before.before.before.before.before.before.before.before.before.before in
-    let s = copied.before.before.before.before.before.before.before.before in
     c.sign_bytes.auto.1.1.1.0 ∙ tracked-codes _ _
-    ran.run-rule.ensures.tracking
-    ∙ ap length copied.copy-record.ensures.0 ∙ sym s.pre.1.1
+    c.run-rule.ensures.tracking
+    ∙ ap length c.copy-record.ensures.0 ∙ sym c.requires.words_len.1
 
 -- words of 64 bits
 b-below : (c : AfterActionOfLeft) → c.action_of-left.result.b < 2 ^ 64
@@ -68,12 +59,9 @@ sz-below c = omega arith
 
 pub returns : goal.returns
 returns c =
-    let ran = c.before.before.before.before.before.before.before.before.before.before.before.before.before.before.before.before in
-    let copied = ran.before.before.before.before.before.before.before.before.before.before in
-    let s = copied.before.before.before.before.before.before.before.before in
     let left = c.before.before.before.before.before.before.before.before in
-    copied-image copied.copy-record.ensures
-    (answered _ _ _ (copied-unrefused copied.copy-record.ensures s.pre.0) ran.begin.result
-    ran.begin.ensures.0 _ ran.run-rule.ensures left.action-of.result left.action-of.ensures
+    copied-image c.copy-record.ensures
+    (answered _ _ _ (copied-unrefused c.copy-record.ensures c.requires.unrefused) c.begin.result
+    c.begin.ensures.0 _ c.run-rule.ensures left.action-of.result left.action-of.ensures
     (b-below left) (sz-below left) _ c.image_number.ensures refl
     c.sign_bytes.ensures refl refl)

@@ -10,18 +10,15 @@ loop-j-init c = (zero-le, mapped-start _ c.args.signs.now)
 
 pub bounds-signs-j : goal.bounds-signs-j
 bounds-signs-j c =
-    let l = c.before.before.before.before in
-    let s = l.before.before.before in
-    omega (arith, l.loop-j.invariant.1.long, s.requires.1, c.loop-j-test.true)
+    omega (arith, c.loop-j.invariant.1.long, c.requires.1, c.loop-j-test.true)
 
 pub loop-j-preserved : goal.loop-j-preserved
 loop-j-preserved c =
-    let l = c.before.before.before.before in
-    let s = l.before.before.before in (
+    (
       omega (arith, c.loop-j-test.true),
-      mapped-store (SignAt s.args.graph.now s.args.sx s.args.sz) s.args.signs.now l.loop-j.signs
-          l.loop-j.j c.sign_byte.result l.loop-j.invariant.1
-          (omega (arith, s.requires.1, c.loop-j-test.true))
+      mapped-store (SignAt c.args.graph.now c.args.sx c.args.sz) c.args.signs.now c.loop-j.signs
+          c.loop-j.j c.sign_byte.result c.loop-j.invariant.1
+          (omega (arith, c.requires.1, c.loop-j-test.true))
           c.sign_byte.ensures,
     )
 

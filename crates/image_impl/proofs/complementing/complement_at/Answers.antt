@@ -8,30 +8,24 @@ use Rattle.image_impl.proofs.complementing.complement_at.Goals as goal
 
 pub complement_record-requires : goal.complement_record-requires
 complement_record-requires c =
-    let s = c.before.before.before.before.before.before.before in
-    (s.requires.2.unrefused, s.requires.0)
+    (c.requires.2.unrefused, c.requires.0)
 
 pub overflow_cast-list : goal.overflow_cast-list
 overflow_cast-list c =
-    let s = c.before.before.before.before.before.before.before.before.before.before.before.before in
-    let small : length s.args.neighbours.now ≤ 64 = tracked-small _ _ s.requires.2 in
-    omega (arith, s.requires.0)
+    let small : length c.args.neighbours.now ≤ 64 = tracked-small _ _ c.requires.2 in
+    omega (arith, c.requires.0)
 
 pub bounds-list-count : goal.bounds-list-count
 bounds-list-count c =
-    let s = c.before.before.before.before.before.before.before.before.before.before.before.before in
-    omega (arith, s.requires.1, s.requires.2.places)
+    omega (arith, c.requires.1, c.requires.2.places)
 
 pub single-requires : goal.single-requires
 single-requires c =
-    let s = c.before.before.before.before.before.before.before.before.before.before.before.before in
-    let small : length s.args.neighbours.now ≤ 64 = tracked-small _ _ s.requires.2 in
-    omega (arith, s.requires.0)
+    let small : length c.args.neighbours.now ≤ 64 = tracked-small _ _ c.requires.2 in
+    omega (arith, c.requires.0)
 
 pub returns : goal.returns
 returns c =
-    let s = c.before.before.before.before.before.before.before.before.before.before.before.before.before.before.before.before.before in
-    let called = c.before.before.before.before.before.before.before.before.before.before in
-    complemented-at _ _ s.args.v s.pre.0 s.pre.2 s.pre.1 _ _
-    c.single.result called.complement_record.ensures
+    complemented-at _ _ c.args.v c.requires.0 c.requires.2 c.requires.1 _ _
+    c.single.result c.complement_record.ensures
     c.single.ensures

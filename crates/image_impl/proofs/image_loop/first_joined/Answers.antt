@@ -9,14 +9,12 @@ loop-j-init c = none_yet _
 
 pub returns-then-joined : goal.returns-then-joined
 returns-then-joined c =
-    let l = c.before.before.before.before.before in
-    first_found _ l.loop-j.j l.loop-j.invariant _ c.loop-j-test.true
+    first_found _ c.loop-j.j c.loop-j.invariant _ c.loop-j-test.true
     (sym c.joined.ensures ∙ c.if-joined.true)
 
 pub loop-j-preserved : goal.loop-j-preserved
 loop-j-preserved c =
-    let l = c.before.before.before.before.before in
-    none_here _ l.loop-j.j l.loop-j.invariant
+    none_here _ c.loop-j.j c.loop-j.invariant
     (sym c.joined.ensures ∙ c.if-joined.false)
 
 pub returns : goal.returns

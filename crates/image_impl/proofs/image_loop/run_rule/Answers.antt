@@ -9,52 +9,39 @@ loop-at-init c = reached-start _ _ c.requires.1
 
 pub next_moves-next-requires : goal.next_moves-next-requires
 next_moves-next-requires c =
-    let s = c.before.before.before.before.before.before.before in
-    next-ready _ _ _ s.requires.0 s.requires.1 c.loop-at.invariant
+    next-ready _ _ _ c.requires.0 c.requires.1 c.loop-at.invariant
 
 pub shape_of-neighbours-then-next-at : goal.shape_of-neighbours-then-next-at
 shape_of-neighbours-then-next-at c =
-    let called = c.before.before.before.before.before.before.before.before.before.before in
-    let s = called.before.before.before.before.before.before.before.before in
-    (round-end _ _ _ s.requires.0 s.requires.1 called.loop-at.invariant _
-    called.next_moves-next.ensures
+    (round-end _ _ _ c.requires.0 c.requires.1 c.loop-at.invariant _
+    c.next_moves-next.ensures
     c.if-next-at.true).tracking.long
 
 pub shape_of-codes-then-next-at : goal.shape_of-codes-then-next-at
 shape_of-codes-then-next-at c =
-    let called = c.before.before.before.before.before.before.before.before.before.before in
-    let s = called.before.before.before.before.before.before.before.before in
-    tracked-codes _ _ (round-end _ _ _ s.requires.0 s.requires.1 called.loop-at.invariant _
-    called.next_moves-next.ensures c.if-next-at.true).tracking ∙ sym (tracked-codes _ _ s.requires.1)
+    tracked-codes _ _ (round-end _ _ _ c.requires.0 c.requires.1 c.loop-at.invariant _
+    c.next_moves-next.ensures c.if-next-at.true).tracking ∙ sym (tracked-codes _ _ c.requires.1)
 
 pub shape_of-list-then-next-at : goal.shape_of-list-then-next-at
 shape_of-list-then-next-at c =
-    let called = c.before.before.before.before.before.before.before.before.before.before in
-    let s = called.before.before.before.before.before.before.before.before in
-    (round-end _ _ _ s.requires.0 s.requires.1 called.loop-at.invariant _
-    called.next_moves-next.ensures
-    c.if-next-at.true).tracking.places ∙ sym s.requires.1.places
+    (round-end _ _ _ c.requires.0 c.requires.1 c.loop-at.invariant _
+    c.next_moves-next.ensures
+    c.if-next-at.true).tracking.places ∙ sym c.requires.1.places
 
 pub returns-then-next-at : goal.returns-then-next-at
 returns-then-next-at c =
-    let called = c.before.before.before.before.before.before.before.before.before.before in
-    let s = called.before.before.before.before.before.before.before.before in
-    round-end _ _ _ s.requires.0 s.requires.1 called.loop-at.invariant _
-    called.next_moves-next.ensures
+    round-end _ _ _ c.requires.0 c.requires.1 c.loop-at.invariant _
+    c.next_moves-next.ensures
     c.if-next-at.true
 
 pub loop-at-smaller : goal.loop-at-smaller
 loop-at-smaller c =
-    let called = c.before.before.before.before.before.before.before.before.before.before in
-    let s = called.before.before.before.before.before.before.before.before in
-    (round-on _ _ _ s.requires.0 s.requires.1 called.loop-at.invariant _
-    called.next_moves-next.ensures
+    (round-on _ _ _ c.requires.0 c.requires.1 c.loop-at.invariant _
+    c.next_moves-next.ensures
     c.if-next-at.false).1
 
 pub loop-at-preserved : goal.loop-at-preserved
 loop-at-preserved c =
-    let called = c.before.before.before.before.before.before.before.before.before.before in
-    let s = called.before.before.before.before.before.before.before.before in
-    (round-on _ _ _ s.requires.0 s.requires.1 called.loop-at.invariant _
-    called.next_moves-next.ensures
+    (round-on _ _ _ c.requires.0 c.requires.1 c.loop-at.invariant _
+    c.next_moves-next.ensures
     c.if-next-at.false).0

@@ -12,28 +12,22 @@ use Rattle.jobs_impl.proofs.generated.put_head.Goals as goal
 
 pub put_bytes-requires : goal.put_bytes-requires
 put_bytes-requires c =
-    let number = c.before.before.before.before in
-    let names = number.before.before.before.before in
-    let start = names.before.before.before.before in
     omega (
       arith,
-      length-decimal start.args.n,
-      names.put_bytes-after_names.ensures.end,
-      names.put_bytes-after_names.auto,
-      number.put_decimal-after_n.ensures.end,
-      number.put_decimal-after_n.auto,
-      start.requires,
+      length-decimal c.args.n,
+      c.put_bytes-after_names.ensures.end,
+      c.put_bytes-after_names.auto,
+      c.put_decimal-after_n.ensures.end,
+      c.put_decimal-after_n.auto,
+      c.requires,
     )
 
 pub returns : goal.returns
 returns c =
-    let number = c.before.before.before.before.before.before.before.before in
-    let names = number.before.before.before.before in
-    let start = names.before.before.before.before in
-    let n = start.args.n in
-    subst (λ l. Printed l 0 start.args.out.now c.put_bytes.new.out
+    let n = c.args.n in
+    subst (λ l. Printed l 0 c.args.out.now c.put_bytes.new.out
     c.put_bytes.result)
-    (head-parts n start.requires.0)
-    (and_then (omega (arith, length-append qubits_line (decimal n), length-decimal n, start.requires))
-    (and_then (omega (arith, start.requires)) names.put_bytes-after_names.ensures number.put_decimal-after_n.ensures)
+    (head-parts n c.requires.0)
+    (and_then (omega (arith, length-append qubits_line (decimal n), length-decimal n, c.requires))
+    (and_then (omega (arith, c.requires)) c.put_bytes-after_names.ensures c.put_decimal-after_n.ensures)
     c.put_bytes.ensures)

@@ -12,26 +12,22 @@ slice_bounds-letters-end c = letters-inside c.args.op _ _ c.op_letters-letters.e
 
 pub slice_bounds-put_bytes-end : goal.slice_bounds-put_bytes-end
 slice_bounds-put_bytes-end c =
-    let l = c.before.before in
-    sym (length-take-le l.op_length-count.result l.op_letters-letters.result
-    (letters-inside l.args.op _ _ l.op_letters-letters.ensures
-    l.op_length-count.ensures))
+    sym (length-take-le c.op_length-count.result c.op_letters-letters.result
+    (letters-inside c.args.op _ _ c.op_letters-letters.ensures
+    c.op_length-count.ensures))
 
 pub put_bytes-requires : goal.put_bytes-requires
 put_bytes-requires c =
-    let l = c.before.before in
-    let start = l.before.before.before in
     omega (
       arith,
-      ap length (letters-taken start.args.op _ _ l.op_letters-letters.ensures l.op_length-count.ensures),
-      start.requires,
+      ap length (letters-taken c.args.op _ _ c.op_letters-letters.ensures c.op_length-count.ensures),
+      c.requires,
     )
 
 pub returns : goal.returns
 returns c =
-    let l = c.before.before.before.before.before.before in
-    let a = l.args in
+    let a = c.args in
     subst (λ t. Printed t a.at a.out.now c.put_bytes.new.out
     c.put_bytes.result)
-    (letters-taken a.op _ _ l.op_letters-letters.ensures l.op_length-count.ensures)
+    (letters-taken a.op _ _ c.op_letters-letters.ensures c.op_length-count.ensures)
     c.put_bytes.ensures

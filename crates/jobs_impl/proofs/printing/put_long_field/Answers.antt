@@ -6,19 +6,15 @@ use Rattle.jobs_impl.proofs.printing.put_long_field.Goals as goal
 
 pub put-requires : goal.put-requires
 put-requires c =
-    let first = c.before.before.before in
-    let start = first.before.before.before in
     omega (
       arith,
-      length_digits 4 start.args.k,
-      first.put_number-next.ensures.end,
-      first.put_number-next.auto,
-      start.requires,
+      length_digits 4 c.args.k,
+      c.put_number-next.ensures.end,
+      c.put_number-next.auto,
+      c.requires,
     )
 
 pub returns : goal.returns
 returns c =
-    let first = c.before.before.before.before.before.before.before in
-    let start = first.before.before.before in
-    and_then (omega (arith, length_digits 4 start.args.k, start.requires)) first.put_number-next.ensures
+    and_then (omega (arith, length_digits 4 c.args.k, c.requires)) c.put_number-next.ensures
     c.put.ensures

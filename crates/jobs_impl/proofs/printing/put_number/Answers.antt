@@ -17,39 +17,31 @@ returns-then-k-lt100 c =
 
 pub put-tens-requires : goal.put-tens-requires
 put-tens-requires c =
-    let hundreds = c.before.before.before in
-    let start = hundreds.before.before.before.before in
     omega (
       arith,
-      length-decimal (start.args.k / 100),
-      hundreds.put_decimal-hundreds.ensures.end,
-      hundreds.put_decimal-hundreds.auto,
-      start.requires,
+      length-decimal (c.args.k / 100),
+      c.put_decimal-hundreds.ensures.end,
+      c.put_decimal-hundreds.auto,
+      c.requires,
     )
 
 pub put-requires : goal.put-requires
 put-requires c =
-    let tens = c.before.before.before in
-    let hundreds = tens.before.before.before.before in
-    let start = hundreds.before.before.before.before in
     omega (
       arith,
-      length-decimal (start.args.k / 100),
-      hundreds.put_decimal-hundreds.ensures.end,
-      hundreds.put_decimal-hundreds.auto,
-      tens.put-tens.ensures.end,
-      tens.put-tens.auto,
-      start.requires,
+      length-decimal (c.args.k / 100),
+      c.put_decimal-hundreds.ensures.end,
+      c.put_decimal-hundreds.auto,
+      c.put-tens.ensures.end,
+      c.put-tens.auto,
+      c.requires,
     )
 
 pub returns : goal.returns
 returns c =
-    let tens = c.before.before.before.before.before.before.before in
-    let hundreds = tens.before.before.before.before in
-    let start = hundreds.before.before.before.before in
-    let k = start.args.k in
+    let k = c.args.k in
     let long = length-decimal (k / 100) in
-    same-print (number-long k hundreds.if-k-lt100.false start.requires.0)
-    (and_then (omega (arith, long, length-append (decimal (k / 100)) ((48 + k / 10 % 10) ∷ []), start.requires))
-    (and_then (omega (arith, long, start.requires)) hundreds.put_decimal-hundreds.ensures tens.put-tens.ensures)
+    same-print (number-long k c.if-k-lt100.false c.requires.0)
+    (and_then (omega (arith, long, length-append (decimal (k / 100)) ((48 + k / 10 % 10) ∷ []), c.requires))
+    (and_then (omega (arith, long, c.requires)) c.put_decimal-hundreds.ensures c.put-tens.ensures)
     c.put.ensures)

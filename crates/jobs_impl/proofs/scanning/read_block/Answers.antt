@@ -30,10 +30,9 @@ loop-i-init c = (zero-le, refl)
 kept-below : (c : AfterStepOfStep) → c.loop-i.scan.count <
     4096
 kept-below c =
-    let branch = c.before in
-    let row = branch.loop-i.scan.count in
+    let row = c.loop-i.scan.count in
     ltb-true row 4096
-    ((and-eq-true_iff (ltb row branch.scan_byte-next.result.count) (ltb row 4096)).0 branch.if-row-count.true).1
+    ((and-eq-true_iff (ltb row c.scan_byte-next.result.count) (ltb row 4096)).0 c.if-row-count.true).1
 
 pub offset_bounds-steps-row : goal.offset_bounds-steps-row
 offset_bounds-steps-row c = omega (arith, kept-below c.before)
@@ -46,18 +45,16 @@ loop-i-smaller c = omega (arith, c.loop-i-test.true)
 
 pub loop-i-preserved : goal.loop-i-preserved
 loop-i-preserved c =
-    let at_byte = c.before.before in
-    let inside = at_byte.before.before in
-    let l = inside.loop-i in
-    let next = at_byte.scan_byte-next.result in
+    let l = c.loop-i in
+    let next = c.scan_byte-next.result in
     let sofar = as_reading l.scan l.steps in (
       search rules,
-      fed-more feed _ sofar _ l.i inside.loop-i-test.true l.invariant.1 (as_reading next c.if-row-count.steps)
+      fed-more feed _ sofar _ l.i c.loop-i-test.true l.invariant.1 (as_reading next c.if-row-count.steps)
           (⊎_elim
           (λ w. ap (as_reading next) w.2
           ∙ ap (λ step. as_reading next (set l.steps l.scan.count step)) w.1.ensures
-          ∙ feed-stored sofar _ next at_byte.scan_byte-next.ensures w.0.taken)
-          (λ w. ap (as_reading next) w.1 ∙ feed-kept sofar _ next at_byte.scan_byte-next.ensures w.0.left)
+          ∙ feed-stored sofar _ next c.scan_byte-next.ensures w.0.true)
+          (λ w. ap (as_reading next) w.1 ∙ feed-kept sofar _ next c.scan_byte-next.ensures w.0.left)
           c.if-row-count.branch),
     )
 

@@ -12,5 +12,4 @@ slice_bounds-print_run-end-2 c = sym (part-long _ _ c.requires.1 refl)
 
 pub print_run-requires : goal.print_run-requires
 print_run-requires c =
-    let S = c.before.before.before.before.before in
-    fresh _ _ _ S.requires.0 S.requires.1 S.requires.2 S.requires.3
+    fresh _ _ _ c.requires.0 c.requires.1 c.requires.2 c.requires.3

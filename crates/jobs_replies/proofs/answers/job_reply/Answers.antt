@@ -31,22 +31,17 @@ print_refusal-requires c =
 
 pub returns-then-number-ne0 : goal.returns-then-number-ne0
 returns-then-number-ne0 c =
-    let P = c.before.before.before in
-    let I = P.before.before in
-    let J = I.before in
-    refusal-responds (held (begun J)) _ _ _ _ J.judge-number.ensures I.if-number-ne0.true P.print_refusal.ensures
+    let J = c.before.before.before.before.before.before in
+    refusal-responds (held (begun J)) _ _ _ _ J.judge-number.ensures c.if-number-ne0.true c.print_refusal.ensures
 
 pub job_answer-requires : goal.job_answer-requires
 job_answer-requires c =
-    let E = c.before.before.before in
-    let J = E.before in
+    let J = c.before.before.before.before in
     let S = begun J in
-    let small = accepted-small S.args.read.scan (sym J.judge-number.ensures ∙ E.if-number-ne0.false) in
-    (small.0, small.1, small.2, S.pre)
+    let small = accepted-small S.args.read.scan (sym J.judge-number.ensures ∙ c.if-number-ne0.false) in
+    (small.0, small.1, small.2, S.requires)
 
 pub returns : goal.returns
 returns c =
-    let P = c.before.before.before in
-    let E = P.before.before.before.before in
-    let J = E.before in
-    job-responds (held (begun J)) _ _ _ _ J.judge-number.ensures E.if-number-ne0.false P.job_answer.ensures
+    let J = c.before.before.before.before.before.before.before.before in
+    job-responds (held (begun J)) _ _ _ _ J.judge-number.ensures c.if-number-ne0.false c.job_answer.ensures

@@ -36,17 +36,14 @@ print_results-at-requires c =
 
 pub print_record-requires : goal.print_record-requires
 print_record-requires c =
-    let P = c.before.before.before.before.before in
-    let R = P.before.before.before.before.before.before.before.before.before in
+    let R = c.before.before.before.before.before.before.before.before.before.before.before.before.before.before in
     let S = begun R in
-    record-printable S.args.n _ _ S.args.count _ (all S) _ _ S.pre _ _ _ _ R.run.ensures _ _
-    P.print-results.ensures
+    record-printable S.args.n _ _ S.args.count _ (all S) _ _ S.requires _ _ _ _ R.run.ensures _ _
+    c.print-results.ensures
 
 pub returns : goal.returns
 returns c =
-    let Q = c.before.before.before in
-    let P = Q.before.before.before.before.before.before in
-    let R = P.before.before.before.before.before.before.before.before.before in
+    let R = c.before.before.before.before.before.before.before.before.before.before.before.before.before.before.before.before.before.before in
     let S = begun R in
-    all-printed S.args.n _ _ S.args.count _ (all S) _ _ S.pre _ _ _ _ R.run.ensures _ _
-    P.print-results.ensures _ _ Q.print_record.ensures
+    all-printed S.args.n _ _ S.args.count _ (all S) _ _ S.requires _ _ _ _ R.run.ensures _ _
+    c.print-results.ensures _ _ c.print_record.ensures

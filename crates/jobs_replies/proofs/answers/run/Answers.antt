@@ -40,13 +40,12 @@ pub settle_last-requires : goal.settle_last-requires
 settle_last-requires c =
     let R = ran c in
     let S = begun R in (
-      omega (arith, S.pre.1, R.run-steps.kept.1.1.1.1.1.1.1.0),
-      last-ready (lent S) _ _ (all S) _ _ _ _ _ R.run-steps.ensures (first-ready _ (lent S) S.pre.2),
+      omega (arith, S.requires.1, R.run_steps-used.kept.1.1.1.1.1.1.1.0),
+      last-ready (lent S) _ _ (all S) _ _ _ _ _ R.run_steps-used.ensures (first-ready _ (lent S) S.requires.2),
     )
 
 pub returns : goal.returns
 returns c =
-    let L = c.before.before.before.before.before in
-    let R = ran L.before in
+    let R = ran c.before.before.before.before.before.before in
     let S = begun R in
-    last-settled (lent S) _ _ (all S) _ _ _ _ _ R.run-steps.ensures _ _ L.settle_last.ensures
+    last-settled (lent S) _ _ (all S) _ _ _ _ _ R.run_steps-used.ensures _ _ c.settle_last.ensures

@@ -8,52 +8,31 @@ use Rattle.jobs_replies.proofs.plots.print_plot.Goals as goal
 
 pub print_refusal-requires : goal.print_refusal-requires
 print_refusal-requires c =
-    let E = c.before.before.before.before.before.before.before in
-    let S = E.before.before.before.before.before.before.before.before.before.before.before in
-    let a = S.args in
+    let a = c.args in
     let l : GeneratorList = record { n = a.n; signs = a.signs.now; z = a.z.now; x = a.x.now } in
-    (refusal-small l _ _ _ _ _ S.requires _ _ _ E.reduce-number.ensures, omega (arith, S.requires.room))
+    (refusal-small l _ _ _ _ _ c.requires _ _ _ c.reduce-number.ensures, omega (arith, c.requires.room))
 
 pub returns-then-number-ne0 : goal.returns-then-number-ne0
 returns-then-number-ne0 c =
-    let E = c.before.before.before.before.before.before.before.before.before.before in
-    let S = E.before.before.before.before.before.before.before.before.before.before.before in
-    let a = S.args in
+    let a = c.args in
     let l : GeneratorList = record { n = a.n; signs = a.signs.now; z = a.z.now; x = a.x.now } in
-    same-print (refused-plotted l _ _ _ _ _ S.requires _ _ _ E.reduce-number.ensures
+    same-print (refused-plotted l _ _ _ _ _ c.requires _ _ _ c.reduce-number.ensures
     c.if-number-ne0.true) c.print_refusal.ensures
 
 pub lowest-low-requires : goal.lowest-low-requires
 lowest-low-requires c =
-    let I = c.before.before.before.before.before in
-    let E = I.before.before.before.before.before in
-    let S = E.before.before.before.before.before.before.before.before.before.before.before in
-    let a = S.args in
+    let a = c.args in
     let l : GeneratorList = record { n = a.n; signs = a.signs.now; z = a.z.now; x = a.x.now } in
-    let long = reduced-length l _ _ _ _ _ S.requires _ _ _ E.reduce.ensures I.if1.false in (
-      reduced-unrefused l _ _ _ _ _ S.requires _ _ _ E.reduce.ensures I.if1.false,
-      (omega (arith, long, S.requires.words_long), omega (arith, long, S.requires.bytes-long)),
-    )
+    let long = reduced-length l _ _ _ _ _ c.requires _ _ _ c.reduce.ensures c.if1.false in record { unrefused = reduced-unrefused l _ _ _ _ _ c.requires _ _ _ c.reduce.ensures c.if1.false; words_len = (omega (arith, long, c.requires.words_long), omega (arith, long, c.requires.bytes-long)) }
 
 pub print_table-requires : goal.print_table-requires
 print_table-requires c =
-    let D = c.before.before in
-    let L = D.before.before.before.before.before.before.before in
-    let I = L.before.before.before.before.before in
-    let E = I.before.before.before.before.before in
-    let S = E.before.before.before.before.before.before.before.before.before.before.before in
-    let a = S.args in
-    let l : GeneratorList = record { n = a.n; signs = a.signs.now; z = a.z.now; x = a.x.now } in record { plottable = reduced-plottable l _ _ _ _ _ S.requires _ _ _ E.reduce.ensures I.if1.false _ L.lowest.ensures; count_bound = table-room l _ _ _ _ _ S.requires _ D.single.ensures }
+    let a = c.args in
+    let l : GeneratorList = record { n = a.n; signs = a.signs.now; z = a.z.now; x = a.x.now } in record { plottable = reduced-plottable l _ _ _ _ _ c.requires _ _ _ c.reduce.ensures c.if1.false _ c.lowest.ensures; count_bound = table-room l _ _ _ _ _ c.requires _ c.single.ensures }
 
 pub returns : goal.returns
 returns c =
-    let T = c.before.before.before in
-    let D = T.before.before in
-    let L = D.before.before.before.before.before.before.before in
-    let I = L.before.before.before.before.before in
-    let E = I.before.before.before.before.before in
-    let S = E.before.before.before.before.before.before.before.before.before.before.before in
-    let a = S.args in
+    let a = c.args in
     let l : GeneratorList = record { n = a.n; signs = a.signs.now; z = a.z.now; x = a.x.now } in
-    same-print (table-plotted l _ _ _ _ _ S.requires _ _ _ E.reduce.ensures I.if1.false _ D.single.ensures)
-    T.print_table.ensures
+    same-print (table-plotted l _ _ _ _ _ c.requires _ _ _ c.reduce.ensures c.if1.false _ c.single.ensures)
+    c.print_table.ensures

@@ -23,70 +23,55 @@ loop-y-init c = (zero-le, record { end = sym (add-zero _); out = write-none _ _ 
 
 pub line_at-line-requires : goal.line_at-line-requires
 line_at-line-requires c =
-    let names = c.before.before.before.before.before in
-    names.requires.plottable
+    c.requires.plottable
 
 pub overflow_cast-y : goal.overflow_cast-y
 overflow_cast-y c =
-    let names = c.before.before.before.before.before.before in
-    let start = names.before.before.before.before.before in
-    omega (arith, c.loop-y-test.true, start.requires.count_bound.0)
+    omega (arith, c.loop-y-test.true, c.requires.count_bound.0)
 
 pub print_point-at-requires : goal.print_point-at-requires
 print_point-at-requires c =
-    let line = c.before.before in
-    let l = line.before.before in
-    let names = l.before.before.before in
-    let start = names.before.before.before.before.before in
-    let R = held_rows (record_in start.args.neighbours.now start.args.codes.now) in
-    let points = plot_at (length start.args.neighbours.now) R in (
-      omega (arith, line.loop-y-test.true, start.requires.count_bound.0),
-      subst AllNumbers (sym line.line_at-line.ensures)
-          (all-numbers (length start.args.neighbours.now) R l.loop-y.y),
+    let R = held_rows (record_in c.args.neighbours.now c.args.codes.now) in
+    let points = plot_at (length c.args.neighbours.now) R in (
+      omega (arith, c.loop-y-test.true, c.requires.count_bound.0),
+      subst AllNumbers (sym c.line_at-line.ensures)
+          (all-numbers (length c.args.neighbours.now) R c.loop-y.y),
       omega (
         arith,
-        line.loop-y-test.true,
-        length-points l.loop-y.y points,
-        l.loop-y.invariant.1.end,
-        l.loop-y.invariant.2,
-        names.print_plot_names-at.ensures.end,
-        names.print_plot_names-at.auto,
-        start.requires.count_bound.1,
+        c.loop-y-test.true,
+        length-points c.loop-y.y points,
+        c.loop-y.invariant.1.end,
+        c.loop-y.invariant.2,
+        c.print_plot_names-at.ensures.end,
+        c.print_plot_names-at.auto,
+        c.requires.count_bound.1,
       ),
     )
 
 pub loop-y-preserved : goal.loop-y-preserved
 loop-y-preserved c =
-    let point = c.before.before.before in
-    let line = point.before.before in
-    let l = line.before.before in
-    let names = l.before.before.before in
-    let start = names.before.before.before.before.before in
-    let points = plot_at (length start.args.neighbours.now)
-    (held_rows (record_in start.args.neighbours.now start.args.codes.now)) in (
+    let points = plot_at (length c.args.neighbours.now)
+    (held_rows (record_in c.args.neighbours.now c.args.codes.now)) in (
       search rules,
-      same-print (points-more l.loop-y.y points)
+      same-print (points-more c.loop-y.y points)
           (and_then (omega (
             arith,
-            line.loop-y-test.true,
-            length-points l.loop-y.y points,
-            names.print_plot_names-at.ensures.end,
-            names.print_plot_names-at.auto,
-            start.requires.count_bound.1,
+            c.loop-y-test.true,
+            length-points c.loop-y.y points,
+            c.print_plot_names-at.ensures.end,
+            c.print_plot_names-at.auto,
+            c.requires.count_bound.1,
           ))
-          l.loop-y.invariant.1
-          (same-print (ap (point_text l.loop-y.y) line.line_at-line.ensures) point.print_point-at.ensures)),
+          c.loop-y.invariant.1
+          (same-print (ap (point_text c.loop-y.y) c.line_at-line.ensures) c.print_point-at.ensures)),
       search rules,
     )
 
 pub returns : goal.returns
 unfolding table_text
 returns c =
-    let l = c.before.before in
-    let names = l.before.before.before in
-    let start = names.before.before.before.before.before in
-    let points = plot_at (length start.args.neighbours.now)
-    (held_rows (record_in start.args.neighbours.now start.args.codes.now)) in
-    let all : l.loop-y.y ≡ start.args.count = omega arith in
-    subst (λ k. Printed (plot_names ++ point_texts k points) 0 start.args.out.now l.loop-y.out l.loop-y.at) all
-    (and_then (omega (arith, start.requires.count_bound.1)) names.print_plot_names-at.ensures l.loop-y.invariant.1)
+    let points = plot_at (length c.args.neighbours.now)
+    (held_rows (record_in c.args.neighbours.now c.args.codes.now)) in
+    let all : c.loop-y.y ≡ c.args.count = omega arith in
+    subst (λ k. Printed (plot_names ++ point_texts k points) 0 c.args.out.now c.loop-y.out c.loop-y.at) all
+    (and_then (omega (arith, c.requires.count_bound.1)) c.print_plot_names-at.ensures c.loop-y.invariant.1)

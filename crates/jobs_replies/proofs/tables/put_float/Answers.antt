@@ -7,19 +7,15 @@ use Rattle.jobs_replies.proofs.tables.put_float.Goals as goal
 
 pub put-requires : goal.put-requires
 put-requires c =
-    let word = c.before.before.before in
-    let start = word.before.before.before in
     omega (
       arith,
-      length-hex 16 (to_bits binary64 start.args.v),
-      word.put_word-next.ensures.end,
-      word.put_word-next.auto,
-      start.requires.1,
+      length-hex 16 (to_bits binary64 c.args.v),
+      c.put_word-next.ensures.end,
+      c.put_word-next.auto,
+      c.requires.1,
     )
 
 pub returns : goal.returns
 returns c =
-    let word = c.before.before.before.before.before.before.before in
-    let start = word.before.before.before in
-    and_then (omega (arith, length-hex 16 (to_bits binary64 start.args.v), start.requires.1))
-    word.put_word-next.ensures c.put.ensures
+    and_then (omega (arith, length-hex 16 (to_bits binary64 c.args.v), c.requires.1))
+    c.put_word-next.ensures c.put.ensures

@@ -33,43 +33,27 @@ reach_minus-requires-2 c =
 
 pub join_sets-requires : goal.join_sets-requires
 join_sets-requires c =
-    let at_b = c.before.before.before.before.before in
-    let at_a = at_b.before.before in
     (
-      unrefused-short _ _ at_a.requires.unrefused,
-      reach-fits _ _ at_a.requires.unrefused _ at_a.requires.a_in_bounds.0 _ at_a.reach_word-to_a.ensures,
-      reach-fits _ _ at_a.requires.unrefused _ at_a.requires.a_in_bounds.1 _ at_b.reach_word-to_b.ensures,
+      unrefused-short _ _ c.requires.unrefused,
+      reach-fits _ _ c.requires.unrefused _ c.requires.a_in_bounds.0 _ c.reach_word-to_a.ensures,
+      reach-fits _ _ c.requires.unrefused _ c.requires.a_in_bounds.1 _ c.reach_word-to_b.ensures,
     )
 
 pub put_before-requires : goal.put_before-requires
 put_before-requires c =
-    let at-turned = c.before.before.before.before.before.before in
-    let at-minus-b = at-turned.before in
-    let at-minus-a = at-minus-b.before in
-    let at_b = at-minus-a.before in
-    let at_a = at_b.before.before in
-    let begun = at_a.before.before.before.before.before.before in record { codes_len_bound = unrefused-codes _ _ begun.requires.unrefused; word_bound = (
-        turned-fits _ _ begun.requires.unrefused _ _ begun.requires.a_in_bounds.0 begun.requires.a_in_bounds.1 begun.requires.a_in_bounds.2 begun.requires.ready _
-            (turned-by-calls (held_record (record_in begun.args.neighbours.now begun.args.codes.now))
-            begun.args.a begun.args.b _ _ _ at_a.reach_word-to_a.ensures at_b.reach_word-to_b.ensures
-            at-minus-a.reach_minus.ensures at-minus-b.reach_minus-2.ensures at-turned.turned_word-turned.ensures),
+    record { codes_len_bound = unrefused-codes _ _ c.requires.unrefused; word_bound = (
+        turned-fits _ _ c.requires.unrefused _ _ c.requires.a_in_bounds.0 c.requires.a_in_bounds.1 c.requires.a_in_bounds.2 c.requires.ready _
+            (turned-by-calls (held_record (record_in c.args.neighbours.now c.args.codes.now))
+            c.args.a c.args.b _ _ _ c.reach_word-to_a.ensures c.reach_word-to_b.ensures
+            c.reach_minus.ensures c.reach_minus-2.ensures c.turned_word-turned.ensures),
         lit< tt,
       ) }
 
 pub returns : goal.returns
 returns c =
-    let at_turn = c.before.before.before in
-    let at_join = at_turn.before.before.before.before in
-    let at-turned = at_join.before.before in
-    let at-minus-b = at-turned.before in
-    let at-minus-a = at-minus-b.before in
-    let at_b = at-minus-a.before in
-    let at_a = at_b.before.before in
-    let begun = at_a.before.before.before.before.before.before in
-    
-    cz-written _ _ begun.requires.unrefused _ _ begun.requires.a_in_bounds.0 begun.requires.a_in_bounds.1 begun.requires.a_in_bounds.2 begun.requires.ready _ _ _ _ _
-    at_a.reach_word-to_a.ensures at_b.reach_word-to_b.ensures
-    (turned-by-calls (held_record (record_in begun.args.neighbours.now begun.args.codes.now))
-    begun.args.a begun.args.b _ _ _ at_a.reach_word-to_a.ensures at_b.reach_word-to_b.ensures
-    at-minus-a.reach_minus.ensures at-minus-b.reach_minus-2.ensures at-turned.turned_word-turned.ensures)
-    at_join.join_sets.auto.0 at_join.join_sets.ensures at_turn.put_before.ensures
+    cz-written _ _ c.requires.unrefused _ _ c.requires.a_in_bounds.0 c.requires.a_in_bounds.1 c.requires.a_in_bounds.2 c.requires.ready _ _ _ _ _
+    c.reach_word-to_a.ensures c.reach_word-to_b.ensures
+    (turned-by-calls (held_record (record_in c.args.neighbours.now c.args.codes.now))
+    c.args.a c.args.b _ _ _ c.reach_word-to_a.ensures c.reach_word-to_b.ensures
+    c.reach_minus.ensures c.reach_minus-2.ensures c.turned_word-turned.ensures)
+    c.join_sets.auto.0 c.join_sets.ensures c.put_before.ensures

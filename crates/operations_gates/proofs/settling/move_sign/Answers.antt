@@ -4,6 +4,4 @@ use Rattle.operations_gates.proofs.settling.move_sign.Goals as goal
 
 pub returns : goal.returns
 returns c =
-    let at-recode = c.before.before.before in
-    let begun = at-recode.before.before.before.before in
-    sign-written _ _ begun.requires.0 begun.args.a begun.requires.1 _ at-recode.recode.ensures
+    sign-written _ _ c.requires.0 c.args.a c.requires.1 _ c.recode.ensures

@@ -8,6 +8,5 @@ suspects-touched-requires c = unrefused-codes _ _ c.requires
 
 pub settle_all-requires : goal.settle_all-requires
 settle_all-requires c =
-    let found = c.before.before in
-    let start = found.requires in
-    let held = found.suspects-touched.ensures in record { unrefused = start; suspected = suspects-held _ _ _ start held; watched = suspects-watched _ _ _ start held }
+    let start = c.requires in
+    let held = c.suspects-touched.ensures in record { unrefused = start; suspected = suspects-held _ _ _ start held; watched = suspects-watched _ _ _ start held }

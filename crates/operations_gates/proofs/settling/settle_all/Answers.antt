@@ -9,21 +9,15 @@ loop-rest-init c = settling-start _ _ _ _ c.requires.unrefused c.requires.suspec
 
 pub settle_next-next-requires : goal.settle_next-next-requires
 settle_next-next-requires c =
-    let inside = c.before.before in
-    let inv = inside.loop-rest.invariant in
-    (inv.kept.unrefused, (inv.suspected, (inv.watched, inside.loop-rest-test.true)))
+    let inv = c.loop-rest.invariant in record { unrefused = inv.kept.unrefused; suspected = inv.suspected; watched = (inv.watched, c.loop-rest-test.true) }
 
 pub loop-rest-smaller : goal.loop-rest-smaller
 loop-rest-smaller c =
-    let stepped = c.before.before.before.before.before in
-    let inside = stepped.before.before.before in
-    settling-less _ _ _ _ _ _ inside.loop-rest.invariant _ _ _ _ stepped.settle_next-next.ensures
+    settling-less _ _ _ _ _ _ c.loop-rest.invariant _ _ _ _ c.settle_next-next.ensures
 
 pub loop-rest-preserved : goal.loop-rest-preserved
 loop-rest-preserved c =
-    let stepped = c.before.before.before.before.before in
-    let inside = stepped.before.before.before in
-    settling-more _ _ _ _ _ _ inside.loop-rest.invariant _ _ _ _ stepped.settle_next-next.ensures
+    settling-more _ _ _ _ _ _ c.loop-rest.invariant _ _ _ _ c.settle_next-next.ensures
 
 pub shape_of-neighbours : goal.shape_of-neighbours
 shape_of-neighbours c = c.loop-rest.invariant.kept.long

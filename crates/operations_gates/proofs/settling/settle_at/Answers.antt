@@ -23,46 +23,34 @@ largest-k-requires c =
 
 pub offset_bounds-neighbours-k : goal.offset_bounds-neighbours-k
 offset_bounds-neighbours-k c =
-    let branch = c.before.before in
-    
     let top = c.largest-k.ensures in
     omega (
       arith,
-      unrefused-short _ _ branch.requires.unrefused.0,
-      larger-below _ _ branch.requires.unrefused.0 _ branch.requires.unrefused.1 branch.requires.j_value branch.if-code-word.true _ top.0 top.1,
+      unrefused-short _ _ c.requires.unrefused.0,
+      larger-below _ _ c.requires.unrefused.0 _ c.requires.unrefused.1 c.requires.j_value c.if-code-word.true _ top.0 top.1,
     )
 
 pub bounds-neighbours-k : goal.bounds-neighbours-k
 bounds-neighbours-k c =
-    let branch = c.before.before.before in
-    
     let top = c.largest-k.ensures in
-    larger-below _ _ branch.requires.unrefused.0 _ branch.requires.unrefused.1 branch.requires.j_value branch.if-code-word.true _ top.0 top.1
+    larger-below _ _ c.requires.unrefused.0 _ c.requires.unrefused.1 c.requires.j_value c.if-code-word.true _ top.0 top.1
 
 pub pivot_record-requires : goal.pivot_record-requires
 pivot_record-requires c =
-    let at-largest = c.before.before.before in
-    let branch = at-largest.before in
-    
-    let top = at-largest.largest-k.ensures in
-    let below = larger-below _ _ branch.requires.unrefused.0 _ branch.requires.unrefused.1 branch.requires.j_value branch.if-code-word.true _ top.0 top.1 in record { unrefused = branch.requires.unrefused.0; j_in_bounds = (branch.requires.unrefused.1, below); k_value = top.0 }
+    let top = c.largest-k.ensures in
+    let below = larger-below _ _ c.requires.unrefused.0 _ c.requires.unrefused.1 c.requires.j_value c.if-code-word.true _ top.0 top.1 in record { unrefused = c.requires.unrefused.0; j_in_bounds = (c.requires.unrefused.1, below); k_value = top.0 }
 
 pub single-requires : goal.single-requires
 single-requires c =
-    let at-largest = c.before.before.before.before.before.before.before.before.before in
-    
-    omega (arith, at-largest.requires.unrefused.1, unrefused-short _ _ at-largest.requires.unrefused.0)
+    omega (arith, c.requires.unrefused.1, unrefused-short _ _ c.requires.unrefused.0)
 
 pub single-requires-then-code-word : goal.single-requires-then-code-word
 single-requires-then-code-word c =
-    let at-largest = c.before.before.before.before.before.before.before.before.before.before in
-    let branch = at-largest.before in
-    
-    let top = at-largest.largest-k.ensures in
+    let top = c.largest-k.ensures in
     omega (
       arith,
-      unrefused-short _ _ branch.requires.unrefused.0,
-      larger-below _ _ branch.requires.unrefused.0 _ branch.requires.unrefused.1 branch.requires.j_value branch.if-code-word.true _ top.0 top.1,
+      unrefused-short _ _ c.requires.unrefused.0,
+      larger-below _ _ c.requires.unrefused.0 _ c.requires.unrefused.1 c.requires.j_value c.if-code-word.true _ top.0 top.1,
     )
 
 pub single-own-requires : goal.single-own-requires
@@ -76,37 +64,20 @@ single-own-requires-else-code-ge12 c =
 
 pub returns-then-code-word : goal.returns-then-code-word
 returns-then-code-word c =
-    let at-pivot = c.before.before.before.before.before.before.before in
-    let at-largest = at-pivot.before.before.before.before in
-    let branch = at-largest.before in
-    
-    let top = at-largest.largest-k.ensures in (
-      pivot-nearer _ _ branch.requires.unrefused.0 _ _ _ _ branch.requires.unrefused.1
-          (larger-below _ _ branch.requires.unrefused.0 _ branch.requires.unrefused.1 branch.requires.j_value branch.if-code-word.true _ top.0 top.1)
-          at-pivot.pivot_record.ensures
-          (pivot-less _ _ branch.requires.unrefused.0 _ branch.requires.unrefused.1 branch.requires.j_value branch.if-code-word.true _ top.0 top.1),
-      pivot-touches _ _ branch.requires.unrefused.0 _ _ _ _ top.0 _ _ c.single.ensures c.single-then-code-word.ensures
-          at-pivot.pivot_record.ensures,
-    )
+    let top = c.largest-k.ensures in record { nearer = pivot-nearer _ _ c.requires.unrefused.0 _ _ _ _ c.requires.unrefused.1
+          (larger-below _ _ c.requires.unrefused.0 _ c.requires.unrefused.1 c.requires.j_value c.if-code-word.true _ top.0 top.1)
+          c.pivot_record.ensures
+          (pivot-less _ _ c.requires.unrefused.0 _ c.requires.unrefused.1 c.requires.j_value c.if-code-word.true _ top.0 top.1); elsewhere = pivot-touches _ _ c.requires.unrefused.0 _ _ _ _ top.0 _ _ c.single.ensures c.single-then-code-word.ensures
+          c.pivot_record.ensures }
 
 pub returns-then-code-ge12 : goal.returns-then-code-ge12
 returns-then-code-ge12 c =
-    let at-complement = c.before.before.before.before.before.before in
-    let branch = at-complement.before.before.before in
-    (
-      complement-nearer _ _ branch.requires.unrefused.0 _ _ _ branch.requires.unrefused.1 at-complement.complement_record.ensures
-          (complement-less _ _ branch.requires.unrefused.0 _ branch.requires.unrefused.1 branch.requires.j_value branch.if-code-word.false
-          branch.if-code-ge12.true),
-      complement-touches _ _ branch.requires.unrefused.0 _ _ _ branch.requires.unrefused.1 _ c.single-own.ensures
-          at-complement.complement_record.ensures,
-    )
+    record { nearer = complement-nearer _ _ c.requires.unrefused.0 _ _ _ c.requires.unrefused.1 c.complement_record.ensures
+          (complement-less _ _ c.requires.unrefused.0 _ c.requires.unrefused.1 c.requires.j_value c.if-code-word.false
+          c.if-code-ge12.true); elsewhere = complement-touches _ _ c.requires.unrefused.0 _ _ _ c.requires.unrefused.1 _ c.single-own.ensures
+          c.complement_record.ensures }
 
 pub returns-else-code-ge12 : goal.returns-else-code-ge12
 returns-else-code-ge12 c =
-    let at_sign = c.before.before.before.before in
-    let branch = at_sign.before.before.before in
-    let start = (branch.requires.unrefused, branch.requires.j_value) in (
-      sign-nearer _ _ branch.requires.unrefused.0 _ branch.requires.unrefused.1 _ at_sign.move_sign.ensures
-          (sign-less _ _ branch.requires.unrefused.0 _ branch.requires.unrefused.1 branch.requires.j_value branch.if1.false branch.if2.false),
-      sign-touches _ _ branch.requires.unrefused.0 _ _ _ branch.requires.unrefused.1 _ c.single-own-else-code-ge12.ensures at_sign.move_sign.ensures,
-    )
+    let start = (c.requires.unrefused, c.requires.j_value) in record { nearer = sign-nearer _ _ c.requires.unrefused.0 _ c.requires.unrefused.1 _ c.move_sign.ensures
+          (sign-less _ _ c.requires.unrefused.0 _ c.requires.unrefused.1 c.requires.j_value c.if1.false c.if2.false); elsewhere = sign-touches _ _ c.requires.unrefused.0 _ _ _ c.requires.unrefused.1 _ c.single-own-else-code-ge12.ensures c.move_sign.ensures }

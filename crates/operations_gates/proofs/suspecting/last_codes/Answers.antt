@@ -12,12 +12,11 @@ bounds-codes-i c = omega (arith, c.loop-i-test.true, c.loop-i.invariant.1)
 
 pub loop-i-preserved : goal.loop-i-preserved
 loop-i-preserved c =
-    let I = c.before.before.before in
-    let L = I.loop-i in
+    let L = c.loop-i in
     let B = c.byte.ensures in (
-      omega (arith, I.loop-i-test.true),
+      omega (arith, c.loop-i-test.true),
       omega (arith, L.invariant.1),
-      packed-next _ L.i L.all _ (omega (arith, I.loop-i-test.true)) B.0 B.1 L.invariant.2,
+      packed-next _ L.i L.all _ (omega (arith, c.loop-i-test.true)) B.0 B.1 L.invariant.2,
     )
 
 pub returns : goal.returns

@@ -41,12 +41,12 @@ pub loop-i-preserved : goal.loop-i-preserved
 loop-i-preserved c =
     let I = c.before.before.before in
     let L = I.loop-i in
-    let S = I.before.before.before.before in
+    
     let M = c.marked_bytes.ensures in (
       omega (arith, L.invariant.0, sub-i I),
       omega (arith, L.invariant.1),
       from-eight _ _ _ _ L.invariant.2 (sub-i I) _ M.0
-          (λ k l. M.1 k l ∙ packed-suspects _ _ _ c.eight_codes-x.ensures S.requires.1 k l),
+          (λ k l. M.1 k l ∙ packed-suspects _ _ _ c.eight_codes-x.ensures I.requires.1 k l),
     )
 
 pub returns : goal.returns

@@ -15,36 +15,33 @@ loop-i-init c = (c.requires.2, le_refl _, from_start _ _)
 pub overflow_mul-all : goal.overflow_mul-all
 overflow_mul-all c =
     let L = c.loop-i in
-    let S = c.before.before.before.before in
-    omega (arith, from-small _ _ L.all L.i L.invariant.2 (omega (arith, c.loop-i-test.true)) S.requires.0)
+    
+    omega (arith, from-small _ _ L.all L.i L.invariant.2 (omega (arith, c.loop-i-test.true)) c.requires.0)
 
 pub bounds-codes-i : goal.bounds-codes-i
 bounds-codes-i c =
-    let I = c.before.before in
-    omega (arith, I.loop-i-test.true, I.loop-i.invariant.1)
+    omega (arith, c.loop-i-test.true, c.loop-i.invariant.1)
 
 pub suspicious-requires : goal.suspicious-requires
 suspicious-requires c = c.requires.1 _
 
 pub overflow_add-all : goal.overflow_add-all
 overflow_add-all c =
-    let I = c.before.before.before in
-    let L = I.loop-i in
-    let S = I.before.before.before in
+    let L = c.loop-i in
+    
     omega (
       arith,
-      from-small _ _ L.all L.i L.invariant.2 (omega (arith, I.loop-i-test.true)) S.requires.0,
-      digit_lt (suspect (get_or S.args.codes.now (L.i - 1) 0)),
+      from-small _ _ L.all L.i L.invariant.2 (omega (arith, c.loop-i-test.true)) c.requires.0,
+      digit_lt (suspect (get_or c.args.codes.now (L.i - 1) 0)),
       c.suspicious.ensures,
     )
 
 pub loop-i-preserved : goal.loop-i-preserved
 loop-i-preserved c =
-    let I = c.before.before.before in
-    let L = I.loop-i in (
-      omega (arith, I.loop-i-test.true),
+    let L = c.loop-i in (
+      omega (arith, c.loop-i-test.true),
       omega (arith, L.invariant.1),
-      from_step _ _ L.all L.i L.invariant.2 (omega (arith, I.loop-i-test.true)) _ c.suspicious.ensures,
+      from_step _ _ L.all L.i L.invariant.2 (omega (arith, c.loop-i-test.true)) _ c.suspicious.ensures,
     )
 
 pub returns : goal.returns

@@ -13,6 +13,5 @@ shape_of-codes c = search rules
 
 pub returns : goal.returns
 returns c =
-    let begun = c.before.before.before.before.before.before.before in
-    gate-held _ _ begun.requires.unrefused begun.args.q begun.requires.q_in_bounds.0 begun.args.k _
+    gate-held _ _ c.requires.unrefused c.args.q c.requires.q_in_bounds.0 c.args.k _
     c.gate_code.ensures

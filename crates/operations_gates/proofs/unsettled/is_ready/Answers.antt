@@ -38,8 +38,8 @@ c_bit-requires c =
 pub returns-then-not-c_bit : goal.returns-then-not-c_bit
 returns-then-not-c_bit c =
     λ e.
-    let begun = c.before.before.before.before.before.before.before.before.before.before.before in
-    ready-first _ _ begun.requires.unrefused begun.args.a begun.args.b
+    
+    ready-first _ _ c.requires.unrefused c.args.a c.args.b
     (sym c.is_crossed.ensures ∙
     c.if-is_crossed.false)
     (sym c.is_crossed-2.ensures ∙ c.if-is_crossed-2.false)
@@ -53,8 +53,8 @@ c_bit-requires-2 c =
 pub returns-then-not-c_bit-2 : goal.returns-then-not-c_bit-2
 returns-then-not-c_bit-2 c =
     λ e.
-    let begun = c.before.before.before.before.before.before.before.before.before.before.before.before.before in
-    ready-second _ _ begun.requires.unrefused begun.args.a begun.args.b
+    
+    ready-second _ _ c.requires.unrefused c.args.a c.args.b
     (sym c.is_crossed.ensures ∙
     c.if-is_crossed.false)
     (sym c.is_crossed-2.ensures ∙
@@ -73,8 +73,8 @@ has-requires c =
 pub returns : goal.returns
 returns c =
     λ e.
-    let begun = c.before.before.before.before.before.before.before.before.before.before.before.before.before.before.before in
-    ready-parted _ _ begun.pre.0 begun.args.a begun.args.b
+    
+    ready-parted _ _ c.requires.unrefused c.args.a c.args.b
     (sym c.is_crossed.ensures ∙
     c.if-is_crossed.false)
     (sym c.is_crossed-2.ensures ∙

@@ -14,11 +14,8 @@ shape_of-codes-then-is_ready c = search rules
 
 pub returns-then-is_ready : goal.returns-then-is_ready
 returns-then-is_ready c =
-    (
-  kept_refl _ _ c.requires.unrefused,
-  c.is_ready.ensures
-      c.if-is_ready.true,
-)
+    record { group_kept = kept_refl _ _ c.requires.unrefused; ready = c.is_ready.ensures
+      c.if-is_ready.true }
 
 pub uncross_both-requires : goal.uncross_both-requires
 uncross_both-requires c = let whole = search rules in record { unrefused = whole.0; a_in_bounds = whole.1 }

@@ -17,7 +17,7 @@ has-requires c =
     omega (arith, c.requires.a_in_bounds.1, unrefused-short _ _ c.requires.unrefused)
 
 pub pivot_record-requires : goal.pivot_record-requires
-pivot_record-requires c = let branch = c.before.before in record { unrefused = c.requires.unrefused; j_in_bounds = c.requires.a_in_bounds; k_value = sym branch.has.ensures ∙ branch.if-has.true }
+pivot_record-requires c = record { unrefused = c.requires.unrefused; j_in_bounds = c.requires.a_in_bounds; k_value = sym c.has.ensures ∙ c.if-has.true }
 
 pub shape_of-neighbours : goal.shape_of-neighbours
 shape_of-neighbours c = search rules
@@ -27,8 +27,7 @@ shape_of-codes c = search rules
 
 pub returns-then-has : goal.returns-then-has
 returns-then-has c =
-    let begun = c.before.before.before.before.before.before.before.before.before.before.before.before.before in
-    pivot-kept _ _ begun.requires.unrefused _ _ begun.args.a begun.args.b begun.requires.a_in_bounds.0 begun.requires.a_in_bounds.1
+    pivot-kept _ _ c.requires.unrefused _ _ c.args.a c.args.b c.requires.a_in_bounds.0 c.requires.a_in_bounds.1
     c.pivot_record.ensures
 
 pub returns-else-has : goal.returns-else-has

@@ -15,11 +15,8 @@ shape_of-codes-then-is_ready c = search rules
 
 pub returns-then-is_ready : goal.returns-then-is_ready
 returns-then-is_ready c =
-    (
-  kept_refl _ _ c.requires.unrefused,
-  c.is_ready.ensures
-      c.if-is_ready.true,
-)
+    record { group_kept = kept_refl _ _ c.requires.unrefused; ready = c.is_ready.ensures
+      c.if-is_ready.true }
 
 pub part-requires : goal.part-requires
 part-requires c = let whole = search rules in record { unrefused = whole.0; a_in_bounds = whole.1 }
@@ -34,11 +31,7 @@ pub shape_of-codes-then-is_ready-2 : goal.shape_of-codes-then-is_ready-2
 shape_of-codes-then-is_ready-2 c = search rules
 
 pub returns-then-is_ready-2 : goal.returns-then-is_ready-2
-returns-then-is_ready-2 c =
-    (
-  c.part.ensures,
-  c.is_ready-2.ensures c.if-is_ready-2.true,
-)
+returns-then-is_ready-2 c = record { group_kept = c.part.ensures; ready = c.is_ready-2.ensures c.if-is_ready-2.true }
 
 pub normalise-requires : goal.normalise-requires
 normalise-requires c = search rules
@@ -52,5 +45,4 @@ shape_of-codes c = search rules
 pub returns : goal.returns
 returns c =
     let N = c.normalise.ensures in
-    let K = c.part.ensures in
-    let begun = c.before.before.before.before.before.before.before.before.before.before.before.before.before.before.before.before.before.before.before.before.before.before.before.before.before in record { group_kept = kept_trans _ _ _ _ _ _ K N.kept; ready = normalised-ready _ _ _ _ _ _ K N _ _ begun.pre.1.0 begun.pre.1.1 }
+    let K = c.part.ensures in record { group_kept = kept_trans _ _ _ _ _ _ K N.kept; ready = normalised-ready _ _ _ _ _ _ K N _ _ c.requires.a_in_bounds.0 c.requires.a_in_bounds.1 }

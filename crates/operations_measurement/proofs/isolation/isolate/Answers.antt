@@ -15,22 +15,16 @@ with_hadamard-own-requires c = (unrefused-codes _ _ c.requires.0).1 _
 
 pub bounds-codes-q-then-t : goal.bounds-codes-q-then-t
 bounds-codes-q-then-t c =
-    let at_turn = c.before.before.before.before.before in
-    let begun = at_turn.before.before.before.before.before.before.before.before in
-    subst (λ m. begun.args.q < m) (sym at_turn.remove_turning.auto.1.0)
-    (unrefused-place _ _ begun.requires.0 _ begun.requires.1)
+    subst (λ m. c.args.q < m) (sym c.remove_turning.auto.1.0)
+    (unrefused-place _ _ c.requires.0 _ c.requires.1)
 
 pub returns-then-t : goal.returns-then-t
 returns-then-t c =
-    let at_turn = c.before.before.before.before.before in
-    let branch = at_turn.before.before.before in
-    let at-hadamard = branch.before in
-    let begun = at-hadamard.before.before.before.before in
-    let start = begun.requires in
-    let known = at_turn.remove_turning in
-    isolated-turning _ _ start.0 begun.args.q begun.args.t branch.if-t.true _ _ _ _
-    (unrefused-place _ _ start.0 _ start.1) at_turn.remove_turning.ensures.codes_after at-hadamard.with_hadamard-own.ensures refl
-    known.auto.0 at_turn.remove_turning.ensures.same_graph
+    let start = c.requires in
+    let known = c.remove_turning in
+    isolated-turning _ _ start.0 c.args.q c.args.t c.if-t.true _ _ _ _
+    (unrefused-place _ _ start.0 _ start.1) c.remove_turning.ensures.codes_after c.with_hadamard-own.ensures refl
+    known.auto.0 c.remove_turning.ensures.same_graph
 
 pub remove_edges-requires : goal.remove_edges-requires
 remove_edges-requires c = let start = c.requires in record { neighbours_len_bound = (unrefused-short _ _ start.0, start.1); simple = unrefused-simple _ _ start.0 }
@@ -42,11 +36,7 @@ bounds-codes-q-2 c =
 
 pub returns : goal.returns
 returns c =
-    let at_part = c.before.before.before in
-    let branch = at_part.before.before in
-    let at-hadamard = branch.before in
-    let begun = at-hadamard.before.before.before.before in
-    let start = begun.requires in
-    isolated-alone _ _ start.0 begun.args.q begun.args.t branch.if-t.false _ _ _
-    (unrefused-place _ _ start.0 _ start.1) at-hadamard.with_hadamard-own.ensures refl
-    at_part.remove_edges.auto.0 at_part.remove_edges.ensures
+    let start = c.requires in
+    isolated-alone _ _ start.0 c.args.q c.args.t c.if-t.false _ _ _
+    (unrefused-place _ _ start.0 _ start.1) c.with_hadamard-own.ensures refl
+    c.remove_edges.auto.0 c.remove_edges.ensures

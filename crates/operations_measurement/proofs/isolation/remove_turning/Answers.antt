@@ -25,28 +25,22 @@ single-away-requires c = lt_of_lt_of_le c.requires.1 (unrefused-short _ _ c.requ
 
 pub loop-rest-init : goal.loop-rest-init
 loop-rest-init c =
-    let start = c.before.before.before.before.before.before in
-    let U = start.requires.0 in (
-      leave-start _ start.args.q (unrefused-simple _ _ U),
-      put-start _ _ 2 (unrefused-codes _ _ U).1 (around-below _ _ U _ start.requires.1),
+    let U = c.requires.0 in (
+      leave-start _ c.args.q (unrefused-simple _ _ U),
+      put-start _ _ 2 (unrefused-codes _ _ U).1 (around-below _ _ U _ c.requires.1),
     )
 
 pub bounds-codes-i : goal.bounds-codes-i
 bounds-codes-i c =
-    let at-smallest = c.before.before in
-    let inside = at-smallest.before in
-    let start = inside.before.before.before.before.before.before.before in
-    next-in _ _ _ _ _ inside.loop-rest.invariant.1 (unrefused-codes _ _ start.requires.0).0 inside.loop-rest-test.true
+    next-in _ _ _ _ _ c.loop-rest.invariant.1 (unrefused-codes _ _ c.requires.0).0 c.loop-rest-test.true
     _
-    at-smallest.smallest-i.ensures.0
+    c.smallest-i.ensures.0
 
 -- a code is below 24
 small : (c : AfterSmallestI) → get_or c.loop-rest.codes c.smallest-i.result 0 < 24
 small c =
-    let inside = c.before in
-    let start = inside.before.before.before.before.before.before.before in
-    let known = unrefused-codes _ _ start.requires.0 in
-    put_small _ _ 2 _ _ inside.loop-rest.invariant.1 known.0 known.1 inside.loop-rest-test.true _
+    let known = unrefused-codes _ _ c.requires.0 in
+    put_small _ _ 2 _ _ c.loop-rest.invariant.1 known.0 known.1 c.loop-rest-test.true _
     c.smallest-i.ensures.0
 
 pub overflow_cast-codes : goal.overflow_cast-codes
@@ -60,85 +54,67 @@ bounds-codes-i-in-loop-rest c = slice-read-code c
 
 pub offset_bounds-neighbours-i : goal.offset_bounds-neighbours-i
 offset_bounds-neighbours-i c =
-    let at-smallest = c.before in
-    let inside = at-smallest.before in
-    let start = inside.before.before.before.before.before.before.before in
     omega (
       arith,
-      next-short _ _ _ _ _ inside.loop-rest.invariant.0 (unrefused-short _ _ start.requires.0)
-          inside.loop-rest-test.true _
-          at-smallest.smallest-i.ensures.0,
+      next-short _ _ _ _ _ c.loop-rest.invariant.0 (unrefused-short _ _ c.requires.0)
+          c.loop-rest-test.true _
+          c.smallest-i.ensures.0,
     )
 
 pub bounds-neighbours-i : goal.bounds-neighbours-i
 bounds-neighbours-i c =
-    let at-smallest = c.before.before.before in
-    let inside = at-smallest.before in
-    let start = inside.before.before.before.before.before.before.before in
-    next-in _ _ _ _ _ inside.loop-rest.invariant.0 (unrefused-short _ _ start.requires.0) inside.loop-rest-test.true _
-    at-smallest.smallest-i.ensures.0
+    next-in _ _ _ _ _ c.loop-rest.invariant.0 (unrefused-short _ _ c.requires.0) c.loop-rest-test.true _
+    c.smallest-i.ensures.0
 
 pub offset_bounds-neighbours-i-in-loop-rest : goal.offset_bounds-neighbours-i-in-loop-rest
 offset_bounds-neighbours-i-in-loop-rest c =
-    let at-smallest = c.before.before in
-    let inside = at-smallest.before in
-    let start = inside.before.before.before.before.before.before.before in
     omega (
       arith,
-      next-short _ _ _ _ _ inside.loop-rest.invariant.0 (unrefused-short _ _ start.requires.0)
-          inside.loop-rest-test.true _
-          at-smallest.smallest-i.ensures.0,
+      next-short _ _ _ _ _ c.loop-rest.invariant.0 (unrefused-short _ _ c.requires.0)
+          c.loop-rest-test.true _
+          c.smallest-i.ensures.0,
     )
 
 pub bounds-neighbours-i-in-loop-rest : goal.bounds-neighbours-i-in-loop-rest
 bounds-neighbours-i-in-loop-rest c =
-    let at-smallest = c.before.before in
-    let inside = at-smallest.before in
-    let start = inside.before.before.before.before.before.before.before in
-    next-in _ _ _ _ _ inside.loop-rest.invariant.0 (unrefused-short _ _ start.requires.0) inside.loop-rest-test.true _
-    at-smallest.smallest-i.ensures.0
+    next-in _ _ _ _ _ c.loop-rest.invariant.0 (unrefused-short _ _ c.requires.0) c.loop-rest-test.true _
+    c.smallest-i.ensures.0
 
 pub without_smallest-rest-requires : goal.without_smallest-rest-requires
 without_smallest-rest-requires c = c.loop-rest-test.true
 
 pub loop-rest-smaller : goal.loop-rest-smaller
 loop-rest-smaller c =
-    let at-smallest = c.before.before.before in
-    let inside = at-smallest.before in
-    let start = inside.before.before.before.before.before.before.before in
-    next-less _ _ _ _ _ inside.loop-rest.invariant.0 (unrefused-short _ _ start.requires.0) inside.loop-rest-test.true
+    next-less _ _ _ _ _ c.loop-rest.invariant.0 (unrefused-short _ _ c.requires.0) c.loop-rest-test.true
     _
-    at-smallest.smallest-i.ensures.0 _
-    (dropped-at _ _ _ c.without_smallest-rest.ensures at-smallest.smallest-i.ensures.0)
+    c.smallest-i.ensures.0 _
+    (dropped-at _ _ _ c.without_smallest-rest.ensures c.smallest-i.ensures.0)
 
 pub loop-rest-preserved : goal.loop-rest-preserved
 loop-rest-preserved c =
     let at-smallest = c.before.before.before in
-    let inside = at-smallest.before in
-    let inv = inside.loop-rest.invariant in
-    let row = inside.before.before.before in
-    let at-single = row.before in
-    let start = at-single.before.before.before in
-    let U = start.requires.0 in
+    
+    let inv = at-smallest.loop-rest.invariant in
+    
+    
+    
+    let U = at-smallest.requires.0 in
     let dropped = dropped-at _ _ _ c.without_smallest-rest.ensures at-smallest.smallest-i.ensures.0 in (
-      leave-more _ start.args.q (unrefused-simple _ _ U) _ _ inv.0 (unrefused-short _ _ U)
-          inside.loop-rest-test.true _ at-smallest.smallest-i.ensures.0 _ _ at-single.single-away.ensures dropped,
-      put-more _ _ 2 _ _ inv.1 (unrefused-codes _ _ U).0 inside.loop-rest-test.true _
-          at-smallest.smallest-i.ensures.0 _ _ (row.before_each-twos.ensures _ (small at-smallest)) dropped,
+      leave-more _ at-smallest.args.q (unrefused-simple _ _ U) _ _ inv.0 (unrefused-short _ _ U)
+          at-smallest.loop-rest-test.true _ at-smallest.smallest-i.ensures.0 _ _ at-smallest.single-away.ensures dropped,
+      put-more _ _ 2 _ _ inv.1 (unrefused-codes _ _ U).0 at-smallest.loop-rest-test.true _
+          at-smallest.smallest-i.ensures.0 _ _ (at-smallest.before_each-twos.ensures _ (small at-smallest)) dropped,
     )
 
 pub bounds-neighbours-q-2 : goal.bounds-neighbours-q-2
 bounds-neighbours-q-2 c =
-    let start = c.before.before.before.before.before.before.before in
-    subst (λ m. start.args.q < m) (sym c.loop-rest.invariant.0.long) start.requires.1
+    subst (λ m. c.args.q < m) (sym c.loop-rest.invariant.0.long) c.requires.1
 
 pub shape_of-neighbours : goal.shape_of-neighbours
 shape_of-neighbours c =
-    let start = c.before.before.before.before.before.before.before in
-    length-set c.loop-rest.neighbours start.args.q 0 ∙ c.loop-rest.invariant.0.long
+    length-set c.loop-rest.neighbours c.args.q 0 ∙ c.loop-rest.invariant.0.long
 
 pub returns : goal.returns
 returns c =
-    let inv = c.loop-rest.invariant in
-    let start = c.before.before.before.before.before.before.before in record { same_graph = leave-end _ start.args.q (unrefused-simple _ _ start.requires.0) _ _ inv.0 c.loop-rest-test.false
-          start.requires.1; codes_after = put-end _ _ 2 _ _ inv.1 c.loop-rest-test.false }
+    let inv = c.loop-rest.invariant in record { same_graph = leave-end _ c.args.q (unrefused-simple _ _ c.requires.0) _ _ inv.0 c.loop-rest-test.false
+          c.requires.1; codes_after = put-end _ _ 2 _ _ inv.1 c.loop-rest-test.false }

@@ -18,14 +18,10 @@ compose-first-requires c =
 
 pub bounds-codes-q-2 : goal.bounds-codes-q-2
 bounds-codes-q-2 c =
-    let at-away = c.before.before.before.before.before in
-    let begun = at-away.before.before.before.before.before.before.before.before in
-    subst (λ m. begun.args.q < m) (sym at-away.complement_away.auto.1.0)
-    (unrefused-place _ _ begun.requires.0 _ begun.requires.1)
+    subst (λ m. c.args.q < m) (sym c.complement_away.auto.1.0)
+    (unrefused-place _ _ c.requires.0 _ c.requires.1)
 
 pub returns : goal.returns
 returns c =
-    let at-away = c.before.before.before.before.before in
-    let at-compose = at-away.before.before.before in
-    let begun = at-compose.before.before.before.before.before in record { same_graph = at-away.complement_away.ensures.same_graph; codes_after = recoded-all _ _ begun.requires.0 begun.args.q begun.requires.1 13 6 _ _ at-compose.compose-first.ensures.0
-            at-away.complement_away.ensures.codes_after; value = refl }
+    record { same_graph = c.complement_away.ensures.same_graph; codes_after = recoded-all _ _ c.requires.0 c.args.q c.requires.1 13 6 _ _ c.compose-first.ensures.0
+            c.complement_away.ensures.codes_after; value = refl }

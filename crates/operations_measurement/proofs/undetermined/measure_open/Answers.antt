@@ -14,15 +14,12 @@ sends-requires c = (unrefused-codes _ _ c.requires.unrefused.0).1 _
 
 pub measure_x-requires : goal.measure_x-requires
 measure_x-requires c =
-    let branch = c.before.before in
-    let begun = branch.before.before.before.before.before in record { unrefused = begun.requires.unrefused; fact = open-neighbour _ _ begun.requires.unrefused.0 begun.args.q begun.requires.unrefused.1 begun.args.l begun.requires.fact begun.requires.q_value
-          (branch.sends.ensures.0 branch.if-sends.true) }
+    record { unrefused = c.requires.unrefused; fact = open-neighbour _ _ c.requires.unrefused.0 c.args.q c.requires.unrefused.1 c.args.l c.requires.fact c.requires.q_value
+          (c.sends.ensures.0 c.if-sends.true) }
 
 pub returns-then-sends : goal.returns-then-sends
 returns-then-sends c =
-    let at_x = c.before.before.before.before.before in
-    let branch = at_x.before.before.before in
-    measured-letter (branch.sends.ensures.0 branch.if-sends.true) at_x.measure_x.ensures
+    measured-letter (c.sends.ensures.0 c.if-sends.true) c.measure_x.ensures
 
 pub bounds-codes-q-2 : goal.bounds-codes-q-2
 bounds-codes-q-2 c =
@@ -33,19 +30,12 @@ sends-requires-2 c = (unrefused-codes _ _ c.requires.unrefused.0).1 _
 
 pub returns-then-sends-2 : goal.returns-then-sends-2
 returns-then-sends-2 c =
-    let at-z = c.before.before.before.before.before in
-    let branch = at-z.before.before.before in
-    measured-letter (branch.sends-2.ensures.0 branch.if-sends-2.true) at-z.measure_z.ensures
+    measured-letter (c.sends-2.ensures.0 c.if-sends-2.true) c.measure_z.ensures
 
 pub returns : goal.returns
 returns c =
-    let at_y = c.before.before.before.before.before in
-    let branch = at_y.before.before.before in
-    let at-sends2 = branch.before in
-    let first = at-sends2.before.before in
-    let begun = first.before.before.before.before.before in
     measured-letter
-    (third-by-calls (codes_of begun.args.codes.now begun.args.q) begun.args.l begun.requires.fact
-    first.sends.ensures first.if-sends.false
-    at-sends2.sends-2.ensures branch.if-sends-2.false)
-    at_y.measure_y.ensures
+    (third-by-calls (codes_of c.args.codes.now c.args.q) c.args.l c.requires.fact
+    c.sends.ensures c.if-sends.false
+    c.sends-2.ensures c.if-sends-2.false)
+    c.measure_y.ensures

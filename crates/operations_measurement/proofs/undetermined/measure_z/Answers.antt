@@ -12,9 +12,7 @@ bounds-codes-q c =
 
 pub returns : goal.returns
 returns c =
-    let at-isolate = c.before.before.before.before.before in
-    let begun = at-isolate.before.before.before.before.before.before in
-    let start = begun.requires in
-    measured-open _ _ start.0 begun.args.q start.1 _ _ _
-    (brought-already _ _ start.0 begun.args.q start.1)
-    begun.args.outcome _ _ _ refl at-isolate.isolate.ensures
+    let start = c.requires in
+    measured-open _ _ start.0 c.args.q start.1 _ _ _
+    (brought-already _ _ start.0 c.args.q start.1)
+    c.args.outcome _ _ _ refl c.isolate.ensures

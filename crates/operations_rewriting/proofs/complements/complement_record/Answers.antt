@@ -19,17 +19,12 @@ compose-first-requires c =
 
 pub bounds-codes-a-2 : goal.bounds-codes-a-2
 bounds-codes-a-2 c =
-    let at-around = c.before.before.before.before.before in
-    let begun = at-around.before.before.before.before.before.before.before in
-    subst (λ m. begun.args.a < m) (sym at-around.complement_around.auto.1.0)
-    (unrefused-place _ _ begun.requires.0 _ begun.requires.1)
+    subst (λ m. c.args.a < m) (sym c.complement_around.auto.1.0)
+    (unrefused-place _ _ c.requires.0 _ c.requires.1)
 
 pub returns : goal.returns
 returns c =
-    let at-around = c.before.before.before.before.before in
-    let at-compose = at-around.before.before.before in
-    let begun = at-compose.before.before.before.before in
-    let known = at-around.complement_around in
-    complemented _ _ begun.requires.0 begun.args.a begun.requires.1 _ _
-    (recoded-all _ _ begun.requires.0 begun.args.a begun.requires.1 13 6 _ _ at-compose.compose-first.ensures.0
-    at-around.complement_around.ensures.codes_after) known.auto.0 at-around.complement_around.ensures.same_graph
+    let known = c.complement_around in
+    complemented _ _ c.requires.0 c.args.a c.requires.1 _ _
+    (recoded-all _ _ c.requires.0 c.args.a c.requires.1 13 6 _ _ c.compose-first.ensures.0
+    c.complement_around.ensures.codes_after) known.auto.0 c.complement_around.ensures.same_graph

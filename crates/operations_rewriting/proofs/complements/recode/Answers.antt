@@ -18,15 +18,10 @@ put_before-requires c = record { codes_len_bound = unrefused-codes _ _ c.require
 
 pub bounds-codes-a-2 : goal.bounds-codes-a-2
 bounds-codes-a-2 c =
-    let at-put = c.before.before.before in
-    let begun = at-put.before.before.before.before.before.before.before in
-    subst (λ m. begun.args.a < m) (sym at-put.put_before.auto.0)
-    (unrefused-place _ _ begun.requires.unrefused.0 _ begun.requires.unrefused.1)
+    subst (λ m. c.args.a < m) (sym c.put_before.auto.0)
+    (unrefused-place _ _ c.requires.unrefused.0 _ c.requires.unrefused.1)
 
 pub returns : goal.returns
 returns c =
-    let at-put = c.before.before.before in
-    let at-compose = at-put.before.before.before in
-    let begun = at-compose.before.before.before.before in
-    recoded-all _ _ begun.requires.unrefused.0 begun.args.a begun.requires.unrefused.1 begun.args.own begun.args.near _ _
-    at-compose.compose-first.ensures.0 at-put.put_before.ensures
+    recoded-all _ _ c.requires.unrefused.0 c.args.a c.requires.unrefused.1 c.args.own c.args.near _ _
+    c.compose-first.ensures.0 c.put_before.ensures

@@ -35,49 +35,33 @@ single-requires-2 c =
 
 pub join_turning-requires : goal.join_turning-requires
 join_turning-requires c =
-    let at-k = c.before.before in
-    let at_j = at-k.before.before in
-    let begun = at_j.before.before.before.before.before.before.before.before in
-    
-    let words = begun.args.neighbours.now in
-    let S = unrefused-simple _ _ begun.requires.unrefused in record { unrefused = begun.requires.unrefused; to_a_bound = (
-        closed-below words S _ _ begun.requires.j_in_bounds.0 at_j.single.ensures,
-        closed-below words S _ _ begun.requires.j_in_bounds.1 at-k.single-2.ensures,
+    let words = c.args.neighbours.now in
+    let S = unrefused-simple _ _ c.requires.unrefused in record { unrefused = c.requires.unrefused; to_a_bound = (
+        closed-below words S _ _ c.requires.j_in_bounds.0 c.single.ensures,
+        closed-below words S _ _ c.requires.j_in_bounds.1 c.single-2.ensures,
       ) }
 
 pub bounds-codes-j-2 : goal.bounds-codes-j-2
 bounds-codes-j-2 c =
-    let joined = c.before.before.before.before.before in
-    let at_j = joined.before.before.before.before.before in
-    let begun = at_j.before.before.before.before.before.before.before.before in
-    subst (λ m. begun.args.j < m) (sym joined.join_turning.auto.1.0)
-    (unrefused-place _ _ begun.requires.unrefused _ begun.requires.j_in_bounds.0)
+    subst (λ m. c.args.j < m) (sym c.join_turning.auto.1.0)
+    (unrefused-place _ _ c.requires.unrefused _ c.requires.j_in_bounds.0)
 
 pub bounds-codes-k-2 : goal.bounds-codes-k-2
 bounds-codes-k-2 c =
-    let joined = c.before.before.before.before.before in
-    let at_j = joined.before.before.before.before.before.before.before.before.before in
-    let begun = at_j.before.before.before.before in
-    subst (λ m. begun.args.k < m)
-    (sym (length-set joined.join_turning.new.codes begun.args.j at_j.compose-at_j.result
-    ∙ joined.join_turning.auto.1.0))
-    (unrefused-place _ _ begun.requires.unrefused _ begun.requires.j_in_bounds.1)
+    subst (λ m. c.args.k < m)
+    (sym (length-set c.join_turning.new.codes c.args.j c.compose-at_j.result
+    ∙ c.join_turning.auto.1.0))
+    (unrefused-place _ _ c.requires.unrefused _ c.requires.j_in_bounds.1)
 
 pub returns : goal.returns
 returns c =
-    let joined = c.before.before.before.before.before in
-    let single-k = joined.before.before.before in
-    let single-j = single-k.before.before in
-    let at-k = single-j.before.before in
-    let at_j = at-k.before.before in
-    let begun = at_j.before.before.before.before in
-    let words = begun.args.neighbours.now in
+    let words = c.args.neighbours.now in
     
-    let known = joined.join_turning in
-    pivoted _ _ begun.requires.unrefused begun.args.j begun.args.k begun.requires.j_in_bounds.0 begun.requires.j_in_bounds.1 begun.requires.k_value _ _
-    (both-recoded _ _ begun.requires.unrefused begun.args.j begun.args.k begun.requires.j_in_bounds.0 begun.requires.j_in_bounds.1 _ _
-    single-j.single.ensures single-k.single-2.ensures _ _ _
-    at_j.compose-at_j.ensures.0 at-k.compose-at_k.ensures.0 joined.join_turning.ensures.codes_after)
+    let known = c.join_turning in
+    pivoted _ _ c.requires.unrefused c.args.j c.args.k c.requires.j_in_bounds.0 c.requires.j_in_bounds.1 c.requires.k_value _ _
+    (both-recoded _ _ c.requires.unrefused c.args.j c.args.k c.requires.j_in_bounds.0 c.requires.j_in_bounds.1 _ _
+    c.single.ensures c.single-2.ensures _ _ _
+    c.compose-at_j.ensures.0 c.compose-at_k.ensures.0 c.join_turning.ensures.codes_after)
     known.auto.0
-    (pivot-by-sets words (unrefused-simple _ _ begun.requires.unrefused) begun.args.j begun.args.k _ _ begun.requires.k_value
-    single-j.single.ensures single-k.single-2.ensures joined.join_turning.new.neighbours joined.join_turning.ensures.same_graph)
+    (pivot-by-sets words (unrefused-simple _ _ c.requires.unrefused) c.args.j c.args.k _ _ c.requires.k_value
+    c.single.ensures c.single-2.ensures c.join_turning.new.neighbours c.join_turning.ensures.same_graph)

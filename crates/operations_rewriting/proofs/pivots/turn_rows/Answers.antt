@@ -23,27 +23,21 @@ codes-short h = subst (λ k. k ≤ 64) (sym h.1) h.0
 
 pub loop-rest-init : goal.loop-rest-init
 loop-rest-init c =
-    let start = c.before.before.before.before in
-    let below = start.requires.rows_bound in (
+    let below = c.requires.rows_bound in (
       flip-start _ _ _ below,
-      put-start _ _ 2 start.requires.by_index (subst (λ m. start.args.rows < 2 ^ m) (sym start.requires.neighbours_len_bound.1) below),
+      put-start _ _ 2 c.requires.by_index (subst (λ m. c.args.rows < 2 ^ m) (sym c.requires.neighbours_len_bound.1) below),
     )
 
 pub bounds-codes-i : goal.bounds-codes-i
 bounds-codes-i c =
-    let at-smallest = c.before.before in
-    let inside = at-smallest.before in
-    let start = inside.before.before.before.before.before in
-    next-in _ _ _ _ _ inside.loop-rest.invariant.1 (codes-short start.requires.neighbours_len_bound) inside.loop-rest-test.true _
-    at-smallest.smallest-i.ensures.0
+    next-in _ _ _ _ _ c.loop-rest.invariant.1 (codes-short c.requires.neighbours_len_bound) c.loop-rest-test.true _
+    c.smallest-i.ensures.0
 
 -- a code is below 24
 small : (c : AfterSmallestI) → get_or c.loop-rest.codes c.smallest-i.result 0 < 24
 small c =
-    let inside = c.before in
-    let start = inside.before.before.before.before.before in
-    put_small _ _ 2 _ _ inside.loop-rest.invariant.1 (codes-short start.requires.neighbours_len_bound) start.requires.by_index
-    inside.loop-rest-test.true _ c.smallest-i.ensures.0
+    put_small _ _ 2 _ _ c.loop-rest.invariant.1 (codes-short c.requires.neighbours_len_bound) c.requires.by_index
+    c.loop-rest-test.true _ c.smallest-i.ensures.0
 
 pub overflow_cast-codes : goal.overflow_cast-codes
 overflow_cast-codes c = omega (arith, small c.before.before)
@@ -56,32 +50,23 @@ bounds-codes-i-in-loop-rest c = slice-read-code c
 
 pub offset_bounds-neighbours-i : goal.offset_bounds-neighbours-i
 offset_bounds-neighbours-i c =
-    let at-smallest = c.before in
-    let inside = at-smallest.before in
-    let start = inside.before.before.before.before.before in
     omega (
       arith,
-      next-short _ _ _ _ _ inside.loop-rest.invariant.0 start.requires.neighbours_len_bound.0 inside.loop-rest-test.true _
-          at-smallest.smallest-i.ensures.0,
+      next-short _ _ _ _ _ c.loop-rest.invariant.0 c.requires.neighbours_len_bound.0 c.loop-rest-test.true _
+          c.smallest-i.ensures.0,
     )
 
 pub bounds-neighbours-i : goal.bounds-neighbours-i
 bounds-neighbours-i c =
-    let at-smallest = c.before.before.before in
-    let inside = at-smallest.before in
-    let start = inside.before.before.before.before.before in
-    next-in _ _ _ _ _ inside.loop-rest.invariant.0 start.requires.neighbours_len_bound.0 inside.loop-rest-test.true _
-    at-smallest.smallest-i.ensures.0
+    next-in _ _ _ _ _ c.loop-rest.invariant.0 c.requires.neighbours_len_bound.0 c.loop-rest-test.true _
+    c.smallest-i.ensures.0
 
 pub offset_bounds-neighbours-i-in-loop-rest : goal.offset_bounds-neighbours-i-in-loop-rest
 offset_bounds-neighbours-i-in-loop-rest c =
-    let at-smallest = c.before.before in
-    let inside = at-smallest.before in
-    let start = inside.before.before.before.before.before in
     omega (
       arith,
-      next-short _ _ _ _ _ inside.loop-rest.invariant.0 start.requires.neighbours_len_bound.0 inside.loop-rest-test.true _
-          at-smallest.smallest-i.ensures.0,
+      next-short _ _ _ _ _ c.loop-rest.invariant.0 c.requires.neighbours_len_bound.0 c.loop-rest-test.true _
+          c.smallest-i.ensures.0,
     )
 
 pub bounds-neighbours-i-in-loop-rest : goal.bounds-neighbours-i-in-loop-rest
@@ -92,28 +77,23 @@ without_smallest-rest-requires c = c.loop-rest-test.true
 
 pub loop-rest-smaller : goal.loop-rest-smaller
 loop-rest-smaller c =
-    let at-smallest = c.before.before.before in
-    let inside = at-smallest.before in
-    let start = inside.before.before.before.before.before in
-    next-less _ _ _ _ _ inside.loop-rest.invariant.0 start.requires.neighbours_len_bound.0 inside.loop-rest-test.true _
-    at-smallest.smallest-i.ensures.0 _
-    (dropped-at _ _ _ c.without_smallest-rest.ensures at-smallest.smallest-i.ensures.0)
+    next-less _ _ _ _ _ c.loop-rest.invariant.0 c.requires.neighbours_len_bound.0 c.loop-rest-test.true _
+    c.smallest-i.ensures.0 _
+    (dropped-at _ _ _ c.without_smallest-rest.ensures c.smallest-i.ensures.0)
 
 pub loop-rest-preserved : goal.loop-rest-preserved
 loop-rest-preserved c =
     let at-smallest = c.before.before.before in
-    let inside = at-smallest.before in
-    let inv = inside.loop-rest.invariant in
-    let row = inside.before.before in
-    let start = row.before.before.before in
+    
+    let inv = at-smallest.loop-rest.invariant in
+    
+    
     let least = at-smallest.smallest-i.ensures.0 in
     let dropped = dropped-at _ _ _ c.without_smallest-rest.ensures least in (
-      flip-more _ _ start.args.word _ _ inv.0 start.requires.neighbours_len_bound.0 inside.loop-rest-test.true _ least _ dropped,
-      put-more _ _ 2 _ _ inv.1 (codes-short start.requires.neighbours_len_bound) inside.loop-rest-test.true _ least _ _
-          (row.before_each-twos.ensures _ (small at-smallest)) dropped,
+      flip-more _ _ at-smallest.args.word _ _ inv.0 at-smallest.requires.neighbours_len_bound.0 at-smallest.loop-rest-test.true _ least _ dropped,
+      put-more _ _ 2 _ _ inv.1 (codes-short at-smallest.requires.neighbours_len_bound) at-smallest.loop-rest-test.true _ least _ _
+          (at-smallest.before_each-twos.ensures _ (small at-smallest)) dropped,
     )
 
 pub returns : goal.returns
-returns c =
-    let inv = c.loop-rest.invariant in
-    let start = c.before.before.before.before.before in record { same_graph = flip-end _ _ start.args.word _ _ inv.0 c.loop-rest-test.false; codes_after = put-end _ _ 2 _ _ inv.1 c.loop-rest-test.false }
+returns c = let inv = c.loop-rest.invariant in record { same_graph = flip-end _ _ c.args.word _ _ inv.0 c.loop-rest-test.false; codes_after = put-end _ _ 2 _ _ inv.1 c.loop-rest-test.false }

@@ -4,5 +4,4 @@ use Rattle.orbits_impl.proofs.marks.write_orbit.Goals as goal
 
 pub returns : goal.returns
 returns c =
-    let W = c.before.before.before in
-    orbit-written W.spread.ensures W.write_marked.ensures
+    orbit-written c.spread.ensures c.write_marked.ensures

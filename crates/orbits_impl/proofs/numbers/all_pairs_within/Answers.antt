@@ -11,8 +11,7 @@ loop-set-init c = (omega arith, fill_start 64 _ _ refl)
 
 pub loop-set-preserved : goal.loop-set-preserved
 loop-set-preserved c =
-    let L = c.before.before in
-    (omega arith, fill_step 64 _ _ _ _ L.loop-set.invariant.1 c.loop-set-test.true c.pairs_within.ensures)
+    (omega arith, fill_step 64 _ _ _ _ c.loop-set.invariant.1 c.loop-set-test.true c.pairs_within.ensures)
 
 pub returns : goal.returns
 returns c = fill_end 64 _ _ _ c.loop-set.invariant.1 c.loop-set-test.false

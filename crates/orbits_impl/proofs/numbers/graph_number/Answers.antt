@@ -27,8 +27,7 @@ next_pair-pair-requires c =
 
 pub loop-k-preserved : goal.loop-k-preserved
 loop-k-preserved c =
-    let L = c.before.before.before.before.before in
-    one-numbered _ L.loop-k.invariant L.loop-k-test.true _ c.has-joined.ensures _
+    one-numbered _ c.loop-k.invariant c.loop-k-test.true _ c.has-joined.ensures _
     c.put_bit-number.ensures _ c.next_pair-pair.ensures
 
 pub returns : goal.returns

@@ -75,9 +75,7 @@ next_pair-pair-requires c =
 
 pub loop-k-preserved : goal.loop-k-preserved
 loop-k-preserved c =
-    let T = c.before.before in
-    let L = T.before.before in
-    one-joined L.loop-k.invariant L.loop-k-test.true _ T.has-joined.ensures _ _ T.set_where.ensures
+    one-joined c.loop-k.invariant c.loop-k-test.true _ c.has-joined.ensures _ _ c.set_where.ensures
     c.set_where-in-loop-k.ensures _ c.next_pair-pair.ensures
 
 pub returns : goal.returns

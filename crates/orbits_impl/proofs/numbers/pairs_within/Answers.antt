@@ -27,10 +27,8 @@ next_pair-pair-requires c =
 
 pub loop-k-preserved : goal.loop-k-preserved
 loop-k-preserved c =
-    let T = c.before.before in
-    let L = T.before.before in
-    one-numbered _ L.loop-k.invariant L.loop-k-test.true _
-    (ap₂ ◌&&◌ T.has.ensures T.has-in-loop-k.ensures) _
+    one-numbered _ c.loop-k.invariant c.loop-k-test.true _
+    (ap₂ ◌&&◌ c.has.ensures c.has-in-loop-k.ensures) _
     c.put_bit-number.ensures _ c.next_pair-pair.ensures
 
 pub returns : goal.returns

@@ -10,16 +10,14 @@ use Rattle.orbits_impl.proofs.search.spread.Goals as goal
 
 pub visit-tail-requires : goal.visit-tail-requires
 visit-tail-requires c =
-    let S = c.before.before.before.before in (
-      lt_of_lt_of_le S.requires.2 (graphs-fit S.args.n S.requires.1),
-      none-marked S.args.marks.now S.args.list.now S.requires.4 S.requires.3,
+    (
+      lt_of_lt_of_le c.requires.2 (graphs-fit c.args.n c.requires.1),
+      none-marked c.args.marks.now c.args.list.now c.requires.4 c.requires.3,
     )
 
 pub loop-head-init : goal.loop-head-init
 loop-head-init c =
-    let W = c.before.before.before in
-    let S = W.before.before.before.before.before in
-    follow-start S.args.n S.args.g S.requires.1 S.requires.2 S.requires.4 W.visit-tail.ensures
+    follow-start c.args.n c.args.g c.requires.1 c.requires.2 c.requires.4 c.visit-tail.ensures
 
 pub offset_bounds-list-head : goal.offset_bounds-list-head
 offset_bounds-list-head c = record { fits = omega (arith, tail-fits c.loop-head.invariant.queue) }
@@ -34,42 +32,27 @@ overflow_cast-next c = omega (arith, c.slice_known-in-loop-head-1.given c.loop-h
 
 pub visit_around-tail-requires : goal.visit_around-tail-requires
 visit_around-tail-requires c =
-    let I = c.before.before.before.before in
-    let L = I.before in
-    let W = L.before.before.before in
-    let A = W.before.before.before in
-    let S = A.before.before in (
-      (
-        S.requires.0,
-        S.requires.1,
-        next_small S.args.n S.args.g S.requires.1 S.requires.2 L.loop-head.invariant I.loop-head-test.true,
-        A.all_pairs_within-within.ensures,
-      ),
-      L.loop-head.invariant.queue,
-    )
+    record { le_n = (
+        c.requires.0,
+        c.requires.1,
+        next_small c.args.n c.args.g c.requires.1 c.requires.2 c.loop-head.invariant c.loop-head-test.true,
+        c.all_pairs_within-within.ensures,
+      ); queue = c.loop-head.invariant.queue }
 
 pub loop-head-smaller : goal.loop-head-smaller
 loop-head-smaller c =
-    let I = c.before.before.before.before.before.before.before.before in
-    omega (arith, I.loop-head-test.true, tail-fits I.loop-head.invariant.queue)
+    omega (arith, c.loop-head-test.true, tail-fits c.loop-head.invariant.queue)
 
 pub loop-head-preserved : goal.loop-head-preserved
 loop-head-preserved c =
-    let C = c.before.before.before in
-    let I = C.before.before.before.before.before in
-    let L = I.before in
-    let S = L.before.before.before.before.before.before.before.before in
-    follow-more S.args.n S.args.g S.requires.1 S.requires.2 L.loop-head.invariant I.loop-head-test.true
-    C.visit_around-tail.ensures
+    follow-more c.args.n c.args.g c.requires.1 c.requires.2 c.loop-head.invariant c.loop-head-test.true
+    c.visit_around-tail.ensures
 
 pub shape_of-list : goal.shape_of-list
 shape_of-list c =
-    let S = c.before.before.before.before.before.before.before.before.before in
-    c.loop-head.invariant.queue.places ∙ sym S.requires.3
+    c.loop-head.invariant.queue.places ∙ sym c.requires.3
 
 pub returns : goal.returns
 returns c =
-    let W = c.before.before.before.before in
-    let S = W.before.before.before.before.before in
-    follow-spread S.args.n S.args.g S.requires.1 S.requires.2 c.loop-head.invariant c.loop-head-test.false
-    W.visit-tail.ensures S.requires.3
+    follow-spread c.args.n c.args.g c.requires.1 c.requires.2 c.loop-head.invariant c.loop-head-test.false
+    c.visit-tail.ensures c.requires.3

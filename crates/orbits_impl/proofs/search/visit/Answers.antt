@@ -8,41 +8,32 @@ use Rattle.orbits_impl.proofs.search.visit.Goals as goal
 pub returns-then-has : goal.returns-then-has
 unfolding marked
 returns-then-has c =
-    let S = c.before.before.before.before.before.before in
-    visited-before S.args.h S.requires.0 S.args.marks.now S.args.list.now S.args.tail S.requires.1
+    visited-before c.args.h c.requires.0 c.args.marks.now c.args.list.now c.args.tail c.requires.1
     (sym c.has.ensures ∙ c.if-has.true)
 
 pub offset_bounds-list-tail : goal.offset_bounds-list-tail
 unfolding marked
 offset_bounds-list-tail c =
-    let E = c.before.before in
-    let S = E.before.before.before.before in
-    let R = room S.args.h S.requires.0 S.args.marks.now S.args.list.now S.args.tail S.requires.1
-    (sym E.has.ensures ∙ c.if-has.false) in
-    record { fits = omega (arith, S.requires.1.places) }
+    let R = room c.args.h c.requires.0 c.args.marks.now c.args.list.now c.args.tail c.requires.1
+    (sym c.has.ensures ∙ c.if-has.false) in
+    record { fits = omega (arith, c.requires.1.places) }
 
 pub bounds-list-tail : goal.bounds-list-tail
 unfolding marked
 bounds-list-tail c =
-    let E = c.before.before in
-    let S = E.before.before.before.before in
-    let R = room S.args.h S.requires.0 S.args.marks.now S.args.list.now S.args.tail S.requires.1
-    (sym E.has.ensures ∙ c.if-has.false) in
+    let R = room c.args.h c.requires.0 c.args.marks.now c.args.list.now c.args.tail c.requires.1
+    (sym c.has.ensures ∙ c.if-has.false) in
     R
 
 pub overflow_add-result : goal.overflow_add-result
 unfolding marked
 overflow_add-result c =
-    let E = c.before.before in
-    let S = E.before.before.before.before in
-    let R = room S.args.h S.requires.0 S.args.marks.now S.args.list.now S.args.tail S.requires.1
-    (sym E.has.ensures ∙ c.if-has.false) in
-    omega (arith, S.requires.1.places)
+    let R = room c.args.h c.requires.0 c.args.marks.now c.args.list.now c.args.tail c.requires.1
+    (sym c.has.ensures ∙ c.if-has.false) in
+    omega (arith, c.requires.1.places)
 
 pub returns : goal.returns
 unfolding marked
 returns c =
-    let E = c.before.before in
-    let S = E.before.before.before.before in
-    visited-anew S.args.h S.requires.0 S.args.marks.now S.args.list.now S.args.tail S.requires.1
-    (sym E.has.ensures ∙ c.if-has.false) _ c.flip.ensures
+    visited-anew c.args.h c.requires.0 c.args.marks.now c.args.list.now c.args.tail c.requires.1
+    (sym c.has.ensures ∙ c.if-has.false) _ c.flip.ensures

@@ -10,45 +10,37 @@ use Rattle.orbits_impl.proofs.search.visit_around.Goals as goal
 
 pub loop-a-init : goal.loop-a-init
 loop-a-init c =
-    let S = c.before.before.before in
-    (omega arith, around-none S.args.n S.args.g _ _ _ S.requires.queue)
+    (omega arith, around-none c.args.n c.args.g _ _ _ c.requires.queue)
 
 pub bounds-words-a : goal.bounds-words-a
 bounds-words-a c = omega (arith, c.graph_words-words.ensures.long)
 
 pub offset_bounds-within-around : goal.offset_bounds-within-around
 offset_bounds-within-around c =
-    let W = c.before.before in
     record {
-      fits = omega (arith, word_small W.requires.le_n.1 W.graph_words-words.ensures c.loop-a.a);
+      fits = omega (arith, word_small c.requires.le_n.1 c.graph_words-words.ensures c.loop-a.a);
     }
 
 pub bounds-within-around : goal.bounds-within-around
 bounds-within-around c =
-    let W = c.before.before.before.before in
-    word_small W.requires.le_n.1 W.graph_words-words.ensures c.loop-a.a
+    word_small c.requires.le_n.1 c.graph_words-words.ensures c.loop-a.a
 
 pub visit-end-requires : goal.visit-end-requires
 visit-end-requires c =
-    let L = c.before.before.before.before.before.before in
-    let p = L.requires.le_n in
-    (around-small p.1 L.graph_words-words.ensures L.loop-a.a p.2 _ p.3, L.loop-a.invariant.1.queue)
+    let p = c.requires.le_n in
+    (around-small p.1 c.graph_words-words.ensures c.loop-a.a p.2 _ p.3, c.loop-a.invariant.1.queue)
 
 pub loop-a-preserved : goal.loop-a-preserved
 loop-a-preserved c =
-    let C = c.before.before.before in
-    let L = C.before.before.before.before.before.before in
-    let S = L.before.before.before in (
+    (
       omega arith,
-      around-more S.args.n S.args.g L.loop-a.a L.loop-a.invariant.1 _
-          (around-number S.requires.le_n.1 L.graph_words-words.ensures L.loop-a.a S.requires.le_n.2 _ S.requires.le_n.3)
-          C.visit-end.ensures,
+      around-more c.args.n c.args.g c.loop-a.a c.loop-a.invariant.1 _
+          (around-number c.requires.le_n.1 c.graph_words-words.ensures c.loop-a.a c.requires.le_n.2 _ c.requires.le_n.3)
+          c.visit-end.ensures,
     )
 
 pub returns : goal.returns
 returns c =
-    let L = c.before in
-    let S = L.before.before.before in
-    subst (λ a. Visited (Around S.args.n S.args.g a) S.args.marks.now S.args.list.now S.args.tail
-    L.loop-a.marks L.loop-a.list L.loop-a.end) (le_antisymm L.loop-a.invariant.0 c.loop-a-test.false)
-    L.loop-a.invariant.1
+    subst (λ a. Visited (Around c.args.n c.args.g a) c.args.marks.now c.args.list.now c.args.tail
+    c.loop-a.marks c.loop-a.list c.loop-a.end) (le_antisymm c.loop-a.invariant.0 c.loop-a-test.false)
+    c.loop-a.invariant.1

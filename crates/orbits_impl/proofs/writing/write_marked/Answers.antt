@@ -9,15 +9,12 @@ loop-w-init c = none_written _ _ c.requires
 
 pub write_word-end-requires : goal.write_word-end-requires
 write_word-end-requires c =
-    let L = c.before.before.before.before in
-    (omega arith, word_room L.loop-w.invariant L.loop-w-test.true)
+    (omega arith, word_room c.loop-w.invariant c.loop-w-test.true)
 
 pub loop-w-preserved : goal.loop-w-preserved
 loop-w-preserved c =
-    let W = c.before.before.before in
-    let L = W.before.before.before.before in
-    word-written L.loop-w.invariant L.loop-w-test.true W.write_word-end.ensures
-    W.write_word-end.auto.1.1.0
+    word-written c.loop-w.invariant c.loop-w-test.true c.write_word-end.ensures
+    c.write_word-end.auto.1.1.0
 
 pub returns : goal.returns
 returns c = all-written c.loop-w.invariant c.loop-w-test.false

@@ -53,15 +53,13 @@ flip-rest-requires c = first_small _ c.loop-rest.invariant.small c.loop-rest-tes
 
 pub loop-rest-smaller : goal.loop-rest-smaller
 loop-rest-smaller c =
-    let T = c.before in
-    rest-less _ T.loop-rest.invariant.small T.loop-rest-test.true _ T.smallest-q.ensures.0 _
+    rest-less _ c.loop-rest.invariant.small c.loop-rest-test.true _ c.smallest-q.ensures.0 _
     c.flip-rest.ensures
 
 pub loop-rest-preserved : goal.loop-rest-preserved
 loop-rest-preserved c =
-    let T = c.before in
-    emit-next T.loop-rest.invariant T.requires.1 T.loop-rest-test.true _
-    T.smallest-q.ensures.0 _ c.flip-rest.ensures
+    emit-next c.loop-rest.invariant c.requires.1 c.loop-rest-test.true _
+    c.smallest-q.ensures.0 _ c.flip-rest.ensures
 
 pub returns : goal.returns
 returns c = emit-end c.loop-rest.invariant c.requires.1 c.loop-rest-test.false

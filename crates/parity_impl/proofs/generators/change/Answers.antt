@@ -19,13 +19,12 @@ InLoopJ = lts.In-loop tie.the-claims reads.Pre reads.Post goal.the-invariant-loo
 
 pub bounds-zs-g : goal.bounds-zs-g
 bounds-zs-g c =
-    let S = c.before.before.before.before.before.before in subst (λ m. S.args.g < m) (sym S.requires.zs_len.0)
-    S.requires.zs_len.2
+    subst (λ m. c.args.g < m) (sym c.requires.zs_len.0)
+    c.requires.zs_len.2
 
 pub bounds-xs-g : goal.bounds-xs-g
 bounds-xs-g c =
-    let S = c.before.before.before.before.before.before.before in
-    subst (λ m. S.args.g < m) (sym S.requires.zs_len.1) S.requires.zs_len.2
+    subst (λ m. c.args.g < m) (sym c.requires.zs_len.1) c.requires.zs_len.2
 
 pub loop-j-init : goal.loop-j-init
 loop-j-init c = none-changed _ _ _ _
@@ -33,48 +32,38 @@ loop-j-init c = none-changed _ _ _ _
 -- a place of the loop's lists
 z-place : (c : InLoopJ) → c.loop-j.j < length c.loop-j.zs
 z-place c =
-    let S = c.before.before.before.before.before.before.before.before in
-    subst (λ m. c.loop-j.j < m) (sym (z-long _ _ _ _ S.requires.zs_len.0 S.requires.zs_len.1 _ _ _ _
+    subst (λ m. c.loop-j.j < m) (sym (z-long _ _ _ _ c.requires.zs_len.0 c.requires.zs_len.1 _ _ _ _
     c.loop-j.invariant))
     c.loop-j-test.true
 
 x-place : (c : InLoopJ) → c.loop-j.j < length c.loop-j.xs
 x-place c =
-    let S = c.before.before.before.before.before.before.before.before in
-    subst (λ m. c.loop-j.j < m) (sym (x-long _ _ _ _ S.requires.zs_len.0 S.requires.zs_len.1 _ _ _ _
+    subst (λ m. c.loop-j.j < m) (sym (x-long _ _ _ _ c.requires.zs_len.0 c.requires.zs_len.1 _ _ _ _
     c.loop-j.invariant))
     c.loop-j-test.true
 
 pub cleared-next-requires : goal.cleared-next-requires
 cleared-next-requires c =
-    let T = c.before.before.before.before in
-    let l = T.before in
-    let S = l.before.before.before.before.before.before.before in
-    let a = S.args in
+    let a = c.args in
     ap (λ p. anticommute 64 p (rows (list_in a.signs.now a.zs.now a.xs.now) a.g))
-    (l.loop-j.invariant.rest l.loop-j.j (omega arith))
-    ∙ S.requires.by_index l.loop-j.j (subst (λ m. l.loop-j.j < m) l.loop-j.invariant.long.signs-length T.loop-j-test.true)
+    (c.loop-j.invariant.rest c.loop-j.j (omega arith))
+    ∙ c.requires.by_index c.loop-j.j (subst (λ m. c.loop-j.j < m) c.loop-j.invariant.long.signs-length c.loop-j-test.true)
 
 pub loop-j-smaller : goal.loop-j-smaller
 loop-j-smaller c =
-    let T = c.before.before.before.before.before in
-    omega (arith, T.loop-j-test.true, T.loop-j.invariant.long.signs-length)
+    omega (arith, c.loop-j-test.true, c.loop-j.invariant.long.signs-length)
 
 pub loop-j-preserved : goal.loop-j-preserved
 loop-j-preserved c =
-    let E = c.before in
-    let r = E.cleared-next.result in
-    let T = E.before.before.before.before in
-    let l = T.before in
-    let S = l.before.before.before.before.before.before.before in
-    one-changed _ _ _ _ S.requires.zs_len.0 S.requires.zs_len.1 _ _ _ _ l.loop-j.invariant T.loop-j-test.true
-    r.minus r.z r.x _ c.sign_digit.ensures E.cleared-next.ensures
+    let r = c.cleared-next.result in
+    
+    
+    
+    one-changed _ _ _ _ c.requires.zs_len.0 c.requires.zs_len.1 _ _ _ _ c.loop-j.invariant c.loop-j-test.true
+    r.minus r.z r.x _ c.sign_digit.ensures c.cleared-next.ensures
 
 pub returns : goal.returns
 returns c =
-    let A = c.before in
-    let l = A.before in
-    let S = l.before.before.before.before.before.before.before in
-    all_changed _ _ _ _ S.requires.zs_len.0 S.requires.zs_len.1 _ _ _ _ l.loop-j.invariant A.loop-j-test.false
-    (subst (λ m. S.args.g < m) (sym l.loop-j.invariant.long.signs-length) S.requires.zs_len.2) S.args.minus _
+    all_changed _ _ _ _ c.requires.zs_len.0 c.requires.zs_len.1 _ _ _ _ c.loop-j.invariant c.loop-j-test.false
+    (subst (λ m. c.args.g < m) (sym c.loop-j.invariant.long.signs-length) c.requires.zs_len.2) c.args.minus _
     c.sign_digit-2.ensures

@@ -7,22 +7,17 @@ use Rattle.parity_impl.proofs.generators.cleared.Goals as goal
 
 pub returns-then-not-clashes : goal.returns-then-not-clashes
 returns-then-not-clashes c =
-    let S = c.before.before in
-    let a = S.args in
+    let a = c.args in
     left_alone a.own.minus a.own.z a.own.x a.z a.x _
     (sym c.clashes.ensures ∙ not-true _ c.if-not-clashes.true-raw)
 
 pub letters_minus-minus-requires : goal.letters_minus-minus-requires
 letters_minus-minus-requires c =
-    let S = c.before.before in
-    let a = S.args in
-    sym (letters-commute a.own a.by) ∙ S.requires
+    let a = c.args in
+    sym (letters-commute a.own a.by) ∙ c.requires
 
 pub returns : goal.returns
 returns c =
-    let M = c.before.before.before.before.before.before in
-    let E = M.before in
-    let S = E.before.before in
-    let a = S.args in
-    multiplied a.own a.by a.z a.x (sym E.clashes.ensures ∙ not-false _ E.if-not-clashes.false-raw) _
-    M.letters_minus-minus.ensures
+    let a = c.args in
+    multiplied a.own a.by a.z a.x (sym c.clashes.ensures ∙ not-false _ c.if-not-clashes.false-raw) _
+    c.letters_minus-minus.ensures

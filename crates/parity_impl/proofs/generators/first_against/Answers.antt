@@ -16,15 +16,12 @@ loop-j-init c = none_yet _
 
 pub returns-then-clashes : goal.returns-then-clashes
 returns-then-clashes c =
-    let T = c.before.before.before.before.before in
-    let l = T.before in
-    first_found _ l.loop-j.j l.loop-j.invariant _ T.loop-j-test.true
+    first_found _ c.loop-j.j c.loop-j.invariant _ c.loop-j-test.true
     (sym c.clashes.ensures ∙ c.if-clashes.true)
 
 pub loop-j-preserved : goal.loop-j-preserved
 loop-j-preserved c =
-    let l = c.before.before.before.before.before.before in
-    none_here _ l.loop-j.j l.loop-j.invariant (sym c.clashes.ensures ∙ c.if-clashes.false)
+    none_here _ c.loop-j.j c.loop-j.invariant (sym c.clashes.ensures ∙ c.if-clashes.false)
 
 pub returns : goal.returns
 returns c = none_found _ c.loop-j.j c.loop-j.invariant _ c.loop-j-test.false

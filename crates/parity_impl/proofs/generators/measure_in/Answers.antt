@@ -51,7 +51,7 @@ first_against-g-requires c =
     let S = at E in
     let a = S.args in
     let e = E.expand-into.ensures in
-    search-ready (lent S) (held S) a.z a.x S.pre.1.0.0 S.pre.1.0.1 S.pre.1.1.0 a.bit _ _ _
+    search-ready (lent S) (held S) a.z a.x S.requires.z_bound.0 S.requires.z_bound.1 S.requires.x_value a.bit _ _ _
     e.0 e.1.0 e.1.1
 
 pub change-requires : goal.change-requires
@@ -59,9 +59,8 @@ change-requires c =
     let F = c.before.before.before in
     let E = of F in
     let S = at E in
-    let a = S.args in
-    let e = E.expand-into.ensures in let whole = change-ready (lent S) (held S) a.z a.x S.pre.1.0.0 S.pre.1.0.1 S.pre.1.1.0 a.bit _ _ _
-    e.0 e.1.0 e.1.1 _ F.first_against-g.ensures in record { zs_len = whole.0; by_index = whole.1 }
+    let a = S.args in let whole = change-ready (lent S) (held S) a.z a.x S.requires.z_bound.0 S.requires.z_bound.1 S.requires.x_value a.bit _ _ _
+    E.expand_into.ensures.signs_after E.expand_into.ensures.z_after E.expand_into.ensures.x_after _ F.first_against-g.ensures in record { zs_len = whole.0; by_index = whole.1 }
 
 pub reduce_list-requires : goal.reduce_list-requires
 reduce_list-requires c =
@@ -69,21 +68,19 @@ reduce_list-requires c =
     let F = by C in
     let E = of F in
     let S = at E in
-    let a = S.args in
-    let e = E.expand-into.ensures in record { reducible = reduce-ready (lent S) (held S) a.z a.x S.pre.1.0.0 S.pre.1.0.1 S.pre.1.1.0 a.bit _ _ _
-          e.0 e.1.0 e.1.1 _ F.first-against.ensures _ _ _ C.change.ensures; neighbours_len = (refl, (held S).codes-length) }
+    let a = S.args in record { reducible = reduce-ready (lent S) (held S) a.z a.x S.requires.z_bound.0 S.requires.z_bound.1 S.requires.x_value a.bit _ _ _
+          E.expand_into.ensures.signs_after E.expand_into.ensures.z_after E.expand_into.ensures.x_after _ F.first_against-g.ensures _ _ _ C.change.ensures; neighbours_len = (refl, (held S).codes-length) }
 
 pub returns : goal.returns
 returns c =
-    let R = c.before.before.before.before.before in
-    let C = R.before.before.before.before.before.before.before.before.before.before.before.before in
+    let C = c.before.before.before.before.before.before.before.before.before.before.before.before.before.before.before.before.before in
     let F = by C in
     let E = of F in
     let S = at E in
     let a = S.args in
-    let e = E.expand-into.ensures in
-    let w = reduced-written (lent S) (held S) a.z a.x S.pre.1.0.0 S.pre.1.0.1 S.pre.1.1.0
+    
+    let w = reduced-written (lent S) (held S) a.z a.x S.requires.z_bound.0 S.requires.z_bound.1 S.requires.x_value
     a.bit
-    _ _ _ e.0 e.1.0 e.1.1 _ F.first-against.ensures _ _ _ C.change.ensures _ _ _ _ _
-    R.reduce_list.ensures.value R.reduce_list.ensures.neighbours_after R.reduce_list.ensures.codes_after in
+    _ _ _ E.expand_into.ensures.signs_after E.expand_into.ensures.z_after E.expand_into.ensures.x_after _ F.first_against-g.ensures _ _ _ C.change.ensures _ _ _ _ _
+    c.reduce_list.ensures.value c.reduce_list.ensures.neighbours_after c.reduce_list.ensures.codes_after in
     record { neighbours = w.0; numbers = w.1 }

@@ -32,9 +32,7 @@ loop-i-init c = (omega arith, none_yet _)
 
 pub reaches_out-requires : goal.reaches_out-requires
 reaches_out-requires c =
-    let I = c.before.before.before in
-    let S = I.before.before.before.before in
-    part_count I.loop-i.i 64 S.args.neighbours.now (omega (arith, I.loop-i-test.true, S.requires.neighbours_len))
+    part_count c.loop-i.i 64 c.args.neighbours.now (omega (arith, c.loop-i-test.true, c.requires.neighbours_len))
 
 -- the test at place i
 test-here : (R : AfterReachesOut)
@@ -47,22 +45,18 @@ test-here : (R : AfterReachesOut)
       codes = [];
     }) R.loop-i.i))
 test-here R =
-    let W = R.before.before in
-    let I = W.before in
-    let S = I.before.before.before.before in
-    out-here (bit S.args.own) S.args.heads.now S.args.neighbours.now S.requires.codes_value I.loop-i.i _
-    I.loop-i-test.true W.word_at.ensures _ R.reaches_out.ensures
+    out-here (bit R.args.own) R.args.heads.now R.args.neighbours.now R.requires.codes_value R.loop-i.i _
+    R.loop-i-test.true R.word_at.ensures _ R.reaches_out.ensures
 
 pub returns-then-word_at-reaches_out : goal.returns-then-word_at-reaches_out
 returns-then-word_at-reaches_out c =
-    let I = c.before.before.before.before.before in
-    some-found _ _ I.loop-i.invariant.1 _ I.loop-i-test.true (sym (test-here c.before.before) ∙ c.if-word_at-reaches_out.true)
+    some-found _ _ c.loop-i.invariant.1 _ c.loop-i-test.true (sym (test-here c.before.before) ∙ c.if-word_at-reaches_out.true)
 
 pub loop-i-preserved : goal.loop-i-preserved
 loop-i-preserved c =
-    let I = c.before.before.before.before.before in (
-      omega (arith, I.loop-i-test.true),
-      none_here _ _ I.loop-i.invariant.1 (sym (test-here c.before.before) ∙ c.if-word_at-reaches_out.false),
+    (
+      omega (arith, c.loop-i-test.true),
+      none_here _ _ c.loop-i.invariant.1 (sym (test-here c.before.before) ∙ c.if-word_at-reaches_out.false),
     )
 
 pub returns : goal.returns

@@ -31,24 +31,22 @@ count-here : (W : AfterWordAtN)
     → W.word_at-n.result ≡ count_at (own_heads W.args.party
     W.args.heads.now) W.loop-i.i
 count-here W =
-    let E = W.before.before.before in
-    let a = E.args in
+    let a = W.args in
     let i = W.loop-i.i in
     W.word_at-n.ensures
-    ∙ sym (own-head a.party a.heads.now (3 * i) (omega (arith, E.if-party-gt1.false))
+    ∙ sym (own-head a.party a.heads.now (3 * i) (omega (arith, W.if-party-gt1.false))
     (omega (arith, W.loop-i-test.true)))
 
 pub returns-then-n : goal.returns-then-n
 returns-then-n c =
-    let I = c.before.before.before in
-    some-found _ _ I.loop-i.invariant.1 _ I.loop-i-test.true
+    some-found _ _ c.loop-i.invariant.1 _ c.loop-i-test.true
     (ap (λ n. not (eqb n 0) && not (eqb n 64)) (sym (count-here c.before.before)) ∙ c.if-n.true)
 
 pub loop-i-preserved : goal.loop-i-preserved
 loop-i-preserved c =
-    let I = c.before.before.before in (
-      omega (arith, I.loop-i-test.true),
-      none_here _ _ I.loop-i.invariant.1
+    (
+      omega (arith, c.loop-i-test.true),
+      none_here _ _ c.loop-i.invariant.1
           (ap (λ n. not (eqb n 0) && not (eqb n 64)) (sym (count-here c.before.before)) ∙ c.if-n.false),
     )
 

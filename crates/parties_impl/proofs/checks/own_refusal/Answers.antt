@@ -18,27 +18,21 @@ lent S = record { heads = S.args.heads.now; neighbours = S.args.neighbours.now; 
 
 pub returns-then-other_count : goal.returns-then-other_count
 returns-then-other_count c =
-    let C = c.before.before in
-    let S = C.before.before.before.before in
+    let S = c.before.before.before.before.before.before in
     own-2 (in_party S.args.word S.args.party) S.args.party (lent S)
-    (sym C.other_count.ensures ∙ c.if-other_count.true)
+    (sym c.other_count.ensures ∙ c.if-other_count.true)
 
 pub returns-then-wrong_lengths : goal.returns-then-wrong_lengths
 returns-then-wrong_lengths c =
-    let W = c.before.before in
-    let C = W.before.before in
-    let S = C.before.before.before.before in
+    let S = c.before.before.before.before.before.before.before.before in
     own-4 (in_party S.args.word S.args.party) S.args.party (lent S)
-    (sym C.other_count.ensures ∙ W.if-other_count.false) (sym W.wrong_lengths.ensures ∙ c.if-wrong_lengths.true)
+    (sym c.other_count.ensures ∙ c.if-other_count.false) (sym c.wrong_lengths.ensures ∙ c.if-wrong_lengths.true)
 
 pub returns-then-party-gt1 : goal.returns-then-party-gt1
 returns-then-party-gt1 c =
-    let L = c.before.before in
-    let W = L.before in
-    let C = W.before.before in
-    let S = C.before.before.before.before in
+    let S = c.before.before.before.before.before.before.before.before.before in
     own-none (in_party S.args.word S.args.party) S.args.party (lent S)
-    (sym C.other_count.ensures ∙ W.if-other_count.false) (sym W.wrong_lengths.ensures ∙ L.if-wrong_lengths.false)
+    (sym c.other_count.ensures ∙ c.if-other_count.false) (sym c.wrong_lengths.ensures ∙ c.if-wrong_lengths.false)
     c.if-party-gt1.true
 
 -- TODO gone Need-slice-bounds-places-refusal-end
@@ -70,21 +64,12 @@ returns-then-party-gt1 c =
 
 pub places_refusal-requires : goal.places_refusal-requires
 places_refusal-requires c =
-    let E = c.before.before.before.before.before in
-    let L = E.before in
-    let W = L.before in
-    let C = W.before.before in
-    let S = C.before.before.before.before in let whole = places-fit S.args.party (lent S) (sym C.other_count.ensures ∙ W.if-other_count.false)
-    (sym W.wrong_lengths.ensures ∙ L.if-wrong_lengths.false) E.if-party-gt1.false in record { codes_value = whole.0; neighbours_len = whole.1 }
+    let S = c.before.before.before.before.before.before.before.before.before.before.before.before.before in let whole = places-fit S.args.party (lent S) (sym c.other_count.ensures ∙ c.if-other_count.false)
+    (sym c.wrong_lengths.ensures ∙ c.if-wrong_lengths.false) c.if-party-gt1.false in record { codes_value = whole.0; neighbours_len = whole.1 }
 
 pub returns : goal.returns
 returns c =
-    let O = c.before.before.before.before.before in
-    let E = O.before in
-    let L = E.before in
-    let W = L.before in
-    let C = W.before.before in
-    let S = C.before.before.before.before in
-    own-answer S.args.word S.args.party (lent S) (sym C.other_count.ensures ∙ W.if-other_count.false)
-    (sym W.wrong_lengths.ensures ∙ L.if-wrong_lengths.false) E.if-party-gt1.false _ O.own_word.ensures _
+    let S = c.before.before.before.before.before.before.before.before.before.before.before.before.before.before in
+    own-answer S.args.word S.args.party (lent S) (sym c.other_count.ensures ∙ c.if-other_count.false)
+    (sym c.wrong_lengths.ensures ∙ c.if-wrong_lengths.false) c.if-party-gt1.false _ c.own_word.ensures _
     c.places_refusal.ensures

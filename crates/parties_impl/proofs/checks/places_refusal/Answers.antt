@@ -18,24 +18,19 @@ lent S = record { heads = S.args.heads.now; neighbours = S.args.neighbours.now; 
 
 pub returns-then-number-ne0 : goal.returns-then-number-ne0
 returns-then-number-ne0 c =
-    let R = c.before.before in
-    let S = R.before.before.before.before in
-    places-early (bit S.args.own) (lent S) _ R.store_refusal-number.ensures c.if-number-ne0.true
+    let S = c.before.before.before.before.before.before in
+    places-early (bit S.args.own) (lent S) _ c.store_refusal-number.ensures c.if-number-ne0.true
 
 pub returns-then-held_out : goal.returns-then-held_out
 returns-then-held_out c =
-    let H = c.before.before in
-    let R = H.before.before in
-    let S = R.before.before.before.before in
-    places-last (bit S.args.own) (lent S) _ R.store_refusal-number.ensures H.if-number-ne0.false
-    (sym c.if-held_out.true ∙ H.held_out.ensures
+    let S = c.before.before.before.before.before.before.before.before in
+    places-last (bit S.args.own) (lent S) _ c.store_refusal-number.ensures c.if-number-ne0.false
+    (sym c.if-held_out.true ∙ c.held_out.ensures
     ∙ codes-unread (bit S.args.own) S.args.heads.now S.args.neighbours.now S.args.codes.now)
 
 pub returns-else-held_out : goal.returns-else-held_out
 returns-else-held_out c =
-    let H = c.before.before in
-    let R = H.before.before in
-    let S = R.before.before.before.before in
-    places-last (bit S.args.own) (lent S) _ R.store_refusal-number.ensures H.if-number-ne0.false
-    (sym c.if-held_out.false ∙ H.held_out.ensures
+    let S = c.before.before.before.before.before.before.before.before in
+    places-last (bit S.args.own) (lent S) _ c.store_refusal-number.ensures c.if-number-ne0.false
+    (sym c.if-held_out.false ∙ c.held_out.ensures
     ∙ codes-unread (bit S.args.own) S.args.heads.now S.args.neighbours.now S.args.codes.now)

@@ -9,19 +9,15 @@ loop-j-init c = some-to-none 64 _
 
 pub bounds-neighbours-j : goal.bounds-neighbours-j
 bounds-neighbours-j c =
-    let inside = c.before.before in
-    let start = inside.before.before.before.before in
-    omega (arith, inside.loop-j-test.true, start.requires)
+    omega (arith, c.loop-j-test.true, c.requires)
 
 pub loop-j-preserved : goal.loop-j-preserved
 loop-j-preserved c =
-    let P = c.before.before in
-    let inside = P.before.before in
-    let l = inside.loop-j in
-    let O = inside.before.before in
-    let a = O.args in
-    some-to-one l.j 64 _ l.found _ inside.loop-j-test.true
-    (crossing-here a.word a.neighbours.now l.j O.others-other.ensures P.pick_word.ensures
+    let l = c.loop-j in
+    
+    let a = c.args in
+    some-to-one l.j 64 _ l.found _ c.loop-j-test.true
+    (crossing-here a.word a.neighbours.now l.j c.others-other.ensures c.pick_word.ensures
     c.meet-found.ensures)
     l.invariant
 

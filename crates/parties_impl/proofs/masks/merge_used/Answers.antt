@@ -4,6 +4,5 @@ use Rattle.parties_impl.proofs.masks.merge_used.Goals as goal
 
 pub returns : goal.returns
 returns c =
-    let S = c.before in
-    either-word S.args.own S.args.new S.args.used _ S.fits.new.fits S.fits.used.fits
+    either-word c.args.own c.args.new c.args.used _ c.fits.new.fits c.fits.used.fits
     c.others.ensures

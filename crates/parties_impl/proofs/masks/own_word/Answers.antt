@@ -6,10 +6,8 @@ use Rattle.parties_impl.proofs.masks.own_word.Goals as goal
 
 pub returns-then-party-eq1 : goal.returns-then-party-eq1
 returns-then-party-eq1 c =
-    let S = c.before in
-    party-one S.args.word S.args.party S.ranges.word.fits (eq-eqb _ 1 c.if-party-eq1.true)
+    party-one c.args.word c.args.party c.ranges.word.fits (eq-eqb _ 1 c.if-party-eq1.true)
 
 pub returns-else-party-eq1 : goal.returns-else-party-eq1
 returns-else-party-eq1 c =
-    let S = c.before.before in
-    c.others.ensures ∙ party-other S.args.word S.args.party (ne_eqb _ 1 c.if-party-eq1.false)
+    c.others.ensures ∙ party-other c.args.word c.args.party (ne_eqb _ 1 c.if-party-eq1.false)

@@ -5,10 +5,8 @@ use Rattle.parties_impl.proofs.masks.pick_byte.Goals as goal
 
 pub returns-then-has : goal.returns-then-has
 returns-then-has c =
-    let S = c.before.before in
-    ap (λ b. cond b S.args.a S.args.b) (sym c.if-has.true ∙ c.has.ensures)
+    ap (λ b. cond b c.args.a c.args.b) (sym c.if-has.true ∙ c.has.ensures)
 
 pub returns-else-has : goal.returns-else-has
 returns-else-has c =
-    let S = c.before.before in
-    ap (λ b. cond b S.args.a S.args.b) (sym c.if-has.false ∙ c.has.ensures)
+    ap (λ b. cond b c.args.a c.args.b) (sym c.if-has.false ∙ c.has.ensures)

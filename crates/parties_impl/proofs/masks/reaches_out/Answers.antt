@@ -9,18 +9,15 @@ loop-j-init c = some-to-none 64 _
 
 pub bounds-neighbours-j : goal.bounds-neighbours-j
 bounds-neighbours-j c =
-    let inside = c.before.before in
-    let start = inside.before.before.before.before in
-    omega (arith, inside.loop-j-test.true, start.requires)
+    omega (arith, c.loop-j-test.true, c.requires)
 
 pub loop-j-preserved : goal.loop-j-preserved
 loop-j-preserved c =
-    let inside = c.before.before.before in
-    let l = inside.loop-j in
-    let O = inside.before.before in
-    let a = O.args in
-    some-to-one l.j 64 _ l.found _ inside.loop-j-test.true
-    (out-here a.own a.neighbours.now l.j O.others-outside.ensures c.meet-found.ensures) l.invariant
+    let l = c.loop-j in
+    
+    let a = c.args in
+    some-to-one l.j 64 _ l.found _ c.loop-j-test.true
+    (out-here a.own a.neighbours.now l.j c.others-outside.ensures c.meet-found.ensures) l.invariant
 
 pub returns : goal.returns
 returns c =

@@ -13,7 +13,6 @@ use Rattle.parties_impl.proofs.places.own_place_for.Goals as goal
 
 pub returns : goal.returns
 returns c =
-    let S = c.before.before.before.before in
-    let a = S.args in
+    let a = c.args in
     c.place_for.ensures ∙ ap (λ h. save_place 4 h a.name)
-    (from_place (12 * a.party) 12 a.heads.now ∙ sym (own-heads-of a.party a.heads.now S.requires.1))
+    (from_place (12 * a.party) 12 a.heads.now ∙ sym (own-heads-of a.party a.heads.now c.requires.1))

@@ -4,7 +4,6 @@ use Rattle.parties_impl.proofs.places.take_merged.Goals as goal
 
 pub returns : goal.returns
 returns c =
-    let M = c.before.before.before.before.before in
-    let a = M.args in
+    let a = c.args in
     taken_at a.i a.own a.neighbours.now a.codes.now a.held_neighbours.now a.held_codes.now _ _
-    M.merge.ensures.0 M.merge.ensures.1
+    c.merge.ensures.0 c.merge.ensures.1

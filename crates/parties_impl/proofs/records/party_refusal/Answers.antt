@@ -24,42 +24,30 @@ returns-then-n-ne64 c =
 
 pub returns-then-early-ne0 : goal.returns-then-early-ne0
 returns-then-early-ne0 c =
-    let E = c.before.before in
-    let D = E.before in
-    let S = D.before.before.before in
+    let S = c.before.before.before.before.before.before in
     let a = S.args in
-    record-refused a.word a.party (lent S) a.six a.other D.if-n-ne64.false
-    (no-further (lent S) false (a.six || ltb 1 a.party) E.used_refusal-early.ensures) c.if-early-ne0.true
+    record-refused a.word a.party (lent S) a.six a.other c.if-n-ne64.false
+    (no-further (lent S) false (a.six || ltb 1 a.party) c.used_refusal-early.ensures) c.if-early-ne0.true
 
 pub crosses-requires : goal.crosses-requires
 crosses-requires c =
-    let E = c.before.before in
-    let D = E.before in
-    let S = D.before.before.before in
+    let S = c.before.before.before.before.before.before in
     let a = S.args in
-    of-64 a.word a.party (lent S) a.six a.other D.if-n-ne64.false
-    (no-further (lent S) false (a.six || ltb 1 a.party) E.used_refusal-early.ensures) c.if-early-ne0.false
+    of-64 a.word a.party (lent S) a.six a.other c.if-n-ne64.false
+    (no-further (lent S) false (a.six || ltb 1 a.party) c.used_refusal-early.ensures) c.if-early-ne0.false
 
 pub returns-then-crosses-other : goal.returns-then-crosses-other
 returns-then-crosses-other c =
-    let X = c.before.before in
-    let Z = X.before in
-    let E = Z.before in
-    let D = E.before in
-    let S = D.before.before.before in
+    let S = c.before.before.before.before.before.before.before.before in
     let a = S.args in
-    then-19 a.word a.party (lent S) a.six a.other D.if-n-ne64.false
-    (no-further (lent S) false (a.six || ltb 1 a.party) E.used_refusal-early.ensures) Z.if-early-ne0.false
-    X.crosses.ensures c.if-crosses-other.true
+    then-19 a.word a.party (lent S) a.six a.other c.if-n-ne64.false
+    (no-further (lent S) false (a.six || ltb 1 a.party) c.used_refusal-early.ensures) c.if-early-ne0.false
+    c.crosses.ensures c.if-crosses-other.true
 
 pub returns-else-crosses-other : goal.returns-else-crosses-other
 returns-else-crosses-other c =
-    let X = c.before.before in
-    let Z = X.before in
-    let E = Z.before in
-    let D = E.before in
-    let S = D.before.before.before in
+    let S = c.before.before.before.before.before.before.before.before in
     let a = S.args in
-    then-none a.word a.party (lent S) a.six a.other D.if-n-ne64.false
-    (no-further (lent S) false (a.six || ltb 1 a.party) E.used_refusal-early.ensures) Z.if-early-ne0.false
-    X.crosses.ensures c.if-crosses-other.false
+    then-none a.word a.party (lent S) a.six a.other c.if-n-ne64.false
+    (no-further (lent S) false (a.six || ltb 1 a.party) c.used_refusal-early.ensures) c.if-early-ne0.false
+    c.crosses.ensures c.if-crosses-other.false

@@ -9,7 +9,6 @@ use Rattle.parties_impl.proofs.records.put_used.Goals as goal
 
 pub returns : goal.returns
 returns c =
-    let O = c.before in
-    let a = O.args in
+    let a = c.args in
     c.merge_used.ensures ∙ word-cong 64 _ _ (λ q l. ap (λ b. cond b (bit a.new q) (bit a.used q))
-    (own-bit _ (in_party a.word a.party) O.own_word.ensures q l))
+    (own-bit _ (in_party a.word a.party) c.own_word.ensures q l))

@@ -24,17 +24,16 @@ bounds-codes-q c =
 
 pub loop-q-preserved : goal.loop-q-preserved
 loop-q-preserved c =
-    let I = c.before.before.before.before.before.before in
-    let L = I.loop-q in
-    let S = I.before.before.before.before in
-    let a = S.args in
-    let l = I.loop-q-test.true in (
+    let L = c.loop-q in
+    
+    let a = c.args in
+    let l = c.loop-q-test.true in (
       omega arith,
       fill_step _ _ _ _ _ L.invariant.1 l
-          (neighbour-word a.n a.signs S.args.rows L.q l (S.requires.by_index L.q l) _
+          (neighbour-word a.n a.signs c.args.rows L.q l (c.requires.by_index L.q l) _
           c.put_bit.ensures),
       fill_step _ _ _ _ _ L.invariant.2 l
-          (vertex-number a.n a.hadamards a.signs S.args.rows L.q l _
+          (vertex-number a.n a.hadamards a.signs c.args.rows L.q l _
           c.has.ensures
           c.has-in-loop-q.ensures c.has-in-loop-q-2.ensures c.vertex_code.ensures.0),
     )

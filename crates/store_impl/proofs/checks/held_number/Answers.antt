@@ -31,16 +31,13 @@ returns-then-n-eq0 c = let S = c.before.before.before.before in free-number (len
 
 pub slice_bounds-used_refusal-end : goal.slice_bounds-used_refusal-end
 slice_bounds-used_refusal-end c =
-    let S = c.before.before.before.before.before in
-    sym (part-long S.args.n S.args.neighbours.now S.requires.0 S.requires.1)
+    sym (part-long c.args.n c.args.neighbours.now c.requires.0 c.requires.1)
 
 pub slice_bounds-used_refusal-end-2 : goal.slice_bounds-used_refusal-end-2
 slice_bounds-used_refusal-end-2 c =
-    let S = c.before.before.before.before.before.before in
-    sym (part-long S.args.n S.args.codes.now S.requires.0 S.requires.2)
+    sym (part-long c.args.n c.args.codes.now c.requires.0 c.requires.2)
 
 pub returns : goal.returns
 returns c =
-    let D = c.before.before.before.before in
-    let S = D.before.before.before in
-    held-place-number (lent S) D.if1.false (no-further (lent S) _ _ c.used_refusal.ensures)
+    let S = c.before.before.before.before.before.before in
+    held-place-number (lent S) c.if1.false (no-further (lent S) _ _ c.used_refusal.ensures)

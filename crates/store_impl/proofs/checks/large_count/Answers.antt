@@ -15,15 +15,14 @@ overflow_mul-i c = omega (arith, c.requires)
 
 pub returns-then-word_at-gt64 : goal.returns-then-word_at-gt64
 returns-then-word_at-gt64 c =
-    let at = c.before.before.before.before in
-    some-found _ _ at.loop-i.invariant.1 _ c.loop-i-test.true
+    some-found _ _ c.loop-i.invariant.1 _ c.loop-i-test.true
     (ap (ltb 64) (sym c.word_at.ensures) ∙ lt-ltb 64 _ c.if-word_at-gt64.true)
 
 pub loop-i-preserved : goal.loop-i-preserved
 loop-i-preserved c =
-    let at = c.before.before.before.before in (
+    (
       omega (arith, c.loop-i-test.true),
-      none_here _ _ at.loop-i.invariant.1 (ap (ltb 64) (sym c.word_at.ensures) ∙ le-ltb 64 _ c.if-word_at-gt64.false),
+      none_here _ _ c.loop-i.invariant.1 (ap (ltb 64) (sym c.word_at.ensures) ∙ le-ltb 64 _ c.if-word_at-gt64.false),
     )
 
 pub returns : goal.returns

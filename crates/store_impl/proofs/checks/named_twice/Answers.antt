@@ -40,27 +40,26 @@ twice-here : (W : AfterWordAtInLoopI)
     (name_at W.args.heads.now
     W.loop-i.i))
 twice-here W =
-    let F = W.before in
-    let i = F.loop-i.i in
-    let heads = F.args.heads.now in
+    let i = W.loop-i.i in
+    let heads = W.args.heads.now in
     ap₂ ◌&&◌ (ap (λ n. not (eqb n 0)) W.word_at-in-loop-i.ensures)
-    (ap (λ p. ltb p i) (F.find-before.ensures ∙ ap (place_of i heads) F.word_at.ensures) ∙ some-by-first i _)
+    (ap (λ p. ltb p i) (W.find-before.ensures ∙ ap (place_of i heads) W.word_at.ensures) ∙ some-by-first i _)
 
 pub returns-then-word_at-before : goal.returns-then-word_at-before
 returns-then-word_at-before c =
     let W = c.before.before in
-    let F = W.before in
-    let at = F.before.before.before in
-    some-found _ _ at.loop-i.invariant.1 _ F.loop-i-test.true
+    
+    
+    some-found _ _ W.loop-i.invariant.1 _ W.loop-i-test.true
     (sym (twice-here W) ∙ c.if-word_at-before.true)
 
 pub loop-i-preserved : goal.loop-i-preserved
 loop-i-preserved c =
     let W = c.before.before in
-    let F = W.before in
-    let at = F.before.before.before in (
-      omega (arith, F.loop-i-test.true),
-      none_here _ _ at.loop-i.invariant.1 (sym (twice-here W) ∙ c.if-word_at-before.false),
+    
+    (
+      omega (arith, W.loop-i-test.true),
+      none_here _ _ W.loop-i.invariant.1 (sym (twice-here W) ∙ c.if-word_at-before.false),
     )
 
 pub returns : goal.returns

@@ -65,26 +65,20 @@ slice_bounds-held_number-count-in-loop-i c = omega arith
 
 pub held_number-here-requires : goal.held_number-here-requires
 held_number-here-requires c =
-    let W = c.before.before.before.before in
-    let I = W.before in
-    let S = I.before.before.before.before.before in (
-      place-small _ (lent S) S.requires.k_bound.1 _ _ I.loop-i-test.true W.word_at-n.ensures,
-      place-long _ _ S.args.neighbours.now I.loop-i-test.true S.requires.neighbours_len.0,
-      place-long _ _ S.args.codes.now I.loop-i-test.true S.requires.neighbours_len.1,
+    let S = c.before.before.before.before.before.before.before.before.before.before in (
+      place-small _ (lent S) S.requires.k_bound.1 _ _ c.loop-i-test.true c.word_at-n.ensures,
+      place-long _ _ S.args.neighbours.now c.loop-i-test.true S.requires.neighbours_len.0,
+      place-long _ _ S.args.codes.now c.loop-i-test.true S.requires.neighbours_len.1,
     )
 
 pub loop-i-preserved : goal.loop-i-preserved
 loop-i-preserved c =
-    let H = c.before.before in
-    let U = H.before.before.before in
-    let W = U.before in
-    let I = W.before in
-    let S = I.before.before.before.before.before in
-    let i = I.loop-i.i in
-    place-passed _ (lent S) _ _ I.loop-i.invariant _ _ _ _ I.loop-i-test.true
-    (place-small _ (lent S) S.requires.k_bound.1 _ _ I.loop-i-test.true W.word_at-n.ensures)
-    W.word_at-n.ensures U.word_at-used.ensures (place-part i S.args.neighbours.now)
-    (place-part i S.args.codes.now) _ H.held_number-here.ensures _
+    let S = c.before.before.before.before.before.before.before.before.before.before.before.before in
+    let i = c.loop-i.i in
+    place-passed _ (lent S) _ _ c.loop-i.invariant _ _ _ _ c.loop-i-test.true
+    (place-small _ (lent S) S.requires.k_bound.1 _ _ c.loop-i-test.true c.word_at-n.ensures)
+    c.word_at-n.ensures c.word_at-used.ensures (place-part i S.args.neighbours.now)
+    (place-part i S.args.codes.now) _ c.held_number-here.ensures _
     c.earlier-number.ensures
 
 pub returns : goal.returns

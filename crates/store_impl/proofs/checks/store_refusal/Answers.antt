@@ -19,56 +19,37 @@ lent S = record { heads = S.args.heads.now; neighbours = S.args.neighbours.now; 
 
 pub returns-then-large_count : goal.returns-then-large_count
 returns-then-large_count c =
-    let L = c.before.before in
-    let S = L.before.before.before.before in
-    store-2 _ (lent S) S.args.others (sym L.large_count.ensures ∙ c.if-large_count.true)
+    let S = c.before.before.before.before.before.before in
+    store-2 _ (lent S) S.args.others (sym c.large_count.ensures ∙ c.if-large_count.true)
 
 pub returns-then-wrong_lengths-others : goal.returns-then-wrong_lengths-others
 returns-then-wrong_lengths-others c =
-    let W = c.before.before in
-    let L = W.before.before in
-    let S = L.before.before.before.before in
-    store-4 _ (lent S) S.args.others (sym L.large_count.ensures ∙ W.if-large_count.false)
-    (ap (λ b. b || S.args.others) (sym W.wrong_lengths.ensures) ∙ c.if-wrong_lengths-others.true)
+    let S = c.before.before.before.before.before.before.before.before in
+    store-4 _ (lent S) S.args.others (sym c.large_count.ensures ∙ c.if-large_count.false)
+    (ap (λ b. b || S.args.others) (sym c.wrong_lengths.ensures) ∙ c.if-wrong_lengths-others.true)
 
 pub store_number-number-requires : goal.store_number-number-requires
 store_number-number-requires c =
-    let W = c.before.before in
-    let L = W.before.before in
-    let S = L.before.before.before.before in (
-      (S.requires, sym L.large_count.ensures ∙ W.if-large_count.false),
-      lengths-fit _ (lent S) S.args.others
-          (ap (λ b. b || S.args.others) (sym W.wrong_lengths.ensures) ∙ c.if-wrong_lengths-others.false),
-    )
+    let S = c.before.before.before.before.before.before.before.before in record { k_bound = (S.requires, sym c.large_count.ensures ∙ c.if-large_count.false); neighbours_len = lengths-fit _ (lent S) S.args.others
+          (ap (λ b. b || S.args.others) (sym c.wrong_lengths.ensures) ∙ c.if-wrong_lengths-others.false) }
 
 pub returns-then-number-ne0 : goal.returns-then-number-ne0
 returns-then-number-ne0 c =
-    let N = c.before.before in
-    let F = N.before in
-    let W = F.before in
-    let S = W.before.before.before.before.before.before in
+    let S = c.before.before.before.before.before.before.before.before.before.before in
     store-number _ (lent S) S.args.others
-    (ap (λ b. b || S.args.others) (sym W.wrong_lengths.ensures) ∙ F.if-wrong_lengths-others.false) _ N.store_number-number.ensures
+    (ap (λ b. b || S.args.others) (sym c.wrong_lengths.ensures) ∙ c.if-wrong_lengths-others.false) _ c.store_number-number.ensures
     c.if-number-ne0.true
 
 pub returns-then-named_twice : goal.returns-then-named_twice
 returns-then-named_twice c =
-    let T = c.before.before in
-    let N = T.before.before in
-    let F = N.before in
-    let W = F.before in
-    let S = W.before.before.before.before.before.before in
+    let S = c.before.before.before.before.before.before.before.before.before.before.before.before in
     store-names _ (lent S) S.args.others
-    (ap (λ b. b || S.args.others) (sym W.wrong_lengths.ensures) ∙ F.if-wrong_lengths-others.false) _ N.store_number-number.ensures
-    T.if-number-ne0.false (sym c.if-named_twice.true ∙ T.named_twice.ensures)
+    (ap (λ b. b || S.args.others) (sym c.wrong_lengths.ensures) ∙ c.if-wrong_lengths-others.false) _ c.store_number-number.ensures
+    c.if-number-ne0.false (sym c.if-named_twice.true ∙ c.named_twice.ensures)
 
 pub returns-else-named_twice : goal.returns-else-named_twice
 returns-else-named_twice c =
-    let T = c.before.before in
-    let N = T.before.before in
-    let F = N.before in
-    let W = F.before in
-    let S = W.before.before.before.before.before.before in
+    let S = c.before.before.before.before.before.before.before.before.before.before.before.before in
     store-names _ (lent S) S.args.others
-    (ap (λ b. b || S.args.others) (sym W.wrong_lengths.ensures) ∙ F.if-wrong_lengths-others.false) _ N.store_number-number.ensures
-    T.if-number-ne0.false (sym c.if-named_twice.false ∙ T.named_twice.ensures)
+    (ap (λ b. b || S.args.others) (sym c.wrong_lengths.ensures) ∙ c.if-wrong_lengths-others.false) _ c.store_number-number.ensures
+    c.if-number-ne0.false (sym c.if-named_twice.false ∙ c.named_twice.ensures)

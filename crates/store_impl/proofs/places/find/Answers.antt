@@ -14,15 +14,14 @@ has_name-requires c = omega (arith, c.requires)
 
 pub returns-then-has_name : goal.returns-then-has_name
 returns-then-has_name c =
-    let at = c.before.before.before.before in
-    first_found _ _ at.loop-i.invariant.1 _ c.loop-i-test.true
+    first_found _ _ c.loop-i.invariant.1 _ c.loop-i-test.true
     (sym c.has_name.ensures ∙ c.if-has_name.true)
 
 pub loop-i-preserved : goal.loop-i-preserved
 loop-i-preserved c =
-    let at = c.before.before.before.before in (
+    (
       omega (arith, c.loop-i-test.true),
-      none_here _ _ at.loop-i.invariant.1 (sym c.has_name.ensures ∙ c.if-has_name.false),
+      none_here _ _ c.loop-i.invariant.1 (sym c.has_name.ensures ∙ c.if-has_name.false),
     )
 
 pub returns : goal.returns

@@ -13,15 +13,14 @@ is_free-requires c = omega (arith, c.requires)
 
 pub returns-then-is_free : goal.returns-then-is_free
 returns-then-is_free c =
-    let at = c.before.before.before.before in
-    first_found _ _ at.loop-i.invariant.1 _ c.loop-i-test.true
+    first_found _ _ c.loop-i.invariant.1 _ c.loop-i-test.true
     (sym c.is_free.ensures ∙ c.if-is_free.true)
 
 pub loop-i-preserved : goal.loop-i-preserved
 loop-i-preserved c =
-    let at = c.before.before.before.before in (
+    (
       omega (arith, c.loop-i-test.true),
-      none_here _ _ at.loop-i.invariant.1 (sym c.is_free.ensures ∙ c.if-is_free.false),
+      none_here _ _ c.loop-i.invariant.1 (sym c.is_free.ensures ∙ c.if-is_free.false),
     )
 
 pub returns : goal.returns

@@ -6,5 +6,4 @@ use Rattle.store_impl.proofs.places.has_name.Goals as goal
 
 pub returns : goal.returns
 returns c =
-    let S = c.before.before.before.before in
-    ap₂ (λ n m. not (eqb n 0) && eqb m S.args.name) c.word_at.ensures c.word_at-2.ensures
+    ap₂ (λ n m. not (eqb n 0) && eqb m c.args.name) c.word_at.ensures c.word_at-2.ensures

@@ -8,16 +8,14 @@ use Rattle.store_impl.proofs.places.place_for.Goals as goal
 
 pub returns-then-at-k : goal.returns-then-at-k
 returns-then-at-k c =
-    let F = c.before.before in
-    let a = F.args in
-    F.find-at.ensures ∙ sym (ap (λ b. cond b (place_of a.k a.heads.now a.name)
+    let a = c.args in
+    c.find-at.ensures ∙ sym (ap (λ b. cond b (place_of a.k a.heads.now a.name)
     (free_place a.k a.heads.now))
-    (below-some _ _ (subst (λ p. p < a.k) F.find-at.ensures c.if-at-k.true)))
+    (below-some _ _ (subst (λ p. p < a.k) c.find-at.ensures c.if-at-k.true)))
 
 pub returns : goal.returns
 returns c =
-    let F = c.before.before.before in
-    let a = F.args in
+    let a = c.args in
     c.free.ensures ∙ sym (ap (λ b. cond b (place_of a.k a.heads.now a.name)
     (free_place a.k a.heads.now))
-    (above-none _ _ (subst (λ p. a.k ≤ p) F.find-at.ensures c.if-at-k.false)))
+    (above-none _ _ (subst (λ p. a.k ≤ p) c.find-at.ensures c.if-at-k.false)))

@@ -59,7 +59,7 @@ loop-i-preserved c =
       search rules,
       ⊎_elim
           (λ w. (λ k. as_reading next (w.1 k) (w.2 k) (w.3 k))
-          ∙ on _ (feed-stored sofar _ _ stepped w.0.taken))
+          ∙ on _ (feed-stored sofar _ _ stepped w.0.true))
           (λ w. (λ k. as_reading next (w.1 k) (w.2 k) (w.3 k))
           ∙ on _ (feed-kept sofar _ _ stepped w.0.left))
           c.if-row-count.branch,

@@ -18,49 +18,40 @@ loop-q-init c = (zero-le, record { end = sym (add-zero _); out = write-none _ _ 
 
 pub has-requires : goal.has-requires
 has-requires c =
-    let l = c.before.before.before.before in
-    let start = l.before.before.before.before.before.before.before.before.before in
-    omega (arith, c.loop-q-test.true, start.requires.qubits)
+    omega (arith, c.loop-q-test.true, c.requires.qubits)
 
 pub put_line-at-requires : goal.put_line-at-requires
 put_line-at-requires c =
-    let l = c.before.before.before.before.before.before in
-    let names = l.before.before.before in
-    let start = names.before.before.before.before.before.before in
-    let code = start.requires.codes-small l.loop-q.q c.loop-q-test.true in
+    let code = c.requires.codes-small c.loop-q.q c.loop-q-test.true in
     omega (
       arith,
       code,
-      length-lines l.loop-q.q start.args.neighbours.now start.args.codes.now start.args.used,
-      l.loop-q.invariant.1.end,
-      names.put_bytes-at.ensures.end,
-      names.put_bytes-at.auto,
-      start.requires.room,
-      start.requires.qubits,
+      length-lines c.loop-q.q c.args.neighbours.now c.args.codes.now c.args.used,
+      c.loop-q.invariant.1.end,
+      c.put_bytes-at.ensures.end,
+      c.put_bytes-at.auto,
+      c.requires.room,
+      c.requires.qubits,
     )
 
 pub loop-q-preserved : goal.loop-q-preserved
 unfolding qubit_lines
 loop-q-preserved c =
-    let marked = c.before.before.before.before.before in
-    let l = marked.before.before.before.before in
-    let names = l.before.before.before in
-    let start = names.before.before.before.before.before.before in
-    let lines = length-lines l.loop-q.q start.args.neighbours.now start.args.codes.now start.args.used
+    let lines = length-lines c.loop-q.q c.args.neighbours.now c.args.codes.now c.args.used
     in (
       search rules,
-      subst (λ k. Printed (qubit_lines k start.args.neighbours.now start.args.codes.now start.args.used)
-          names.put_bytes-at.result names.put_bytes-at.new.out
+      subst (λ k. Printed (qubit_lines k c.args.neighbours.now c.args.codes.now c.args.used)
+          c.put_bytes-at.result c.put_bytes-at.new.out
           c.put_line-at.new.out c.put_line-at.result)
-          (sym (add-one l.loop-q.q))
+          (sym (add-one c.loop-q.q))
           (and_then (omega (
             arith,
             lines,
-            names.put_bytes-at.ensures.end,
-            names.put_bytes-at.auto,
-            start.requires.room,
+            c.put_bytes-at.ensures.end,
+            c.put_bytes-at.auto,
+            c.requires.room,
           ))
-          l.loop-q.invariant.1 (same-print (ap (qubit_line _ _ _) marked.has.ensures)
+          c.loop-q.invariant.1 (same-print (ap (qubit_line _ _ _) c.has.ensures)
           c.put_line-at.ensures)),
       search rules,
     )
@@ -68,11 +59,8 @@ loop-q-preserved c =
 pub returns : goal.returns
 unfolding record_text
 returns c =
-    let l = c.before.before in
-    let names = l.before.before.before in
-    let start = names.before.before.before.before.before.before in
-    let all : l.loop-q.q ≡ start.args.n = omega arith in
+    let all : c.loop-q.q ≡ c.args.n = omega arith in
     subst (λ k. Printed (record_names
-    ++ qubit_lines k start.args.neighbours.now start.args.codes.now start.args.used)
-    start.args.from start.args.out.now l.loop-q.out l.loop-q.at) all
-    (and_then (omega (arith, start.requires.room)) names.put_bytes-at.ensures l.loop-q.invariant.1)
+    ++ qubit_lines k c.args.neighbours.now c.args.codes.now c.args.used)
+    c.args.from c.args.out.now c.loop-q.out c.loop-q.at) all
+    (and_then (omega (arith, c.requires.room)) c.put_bytes-at.ensures c.loop-q.invariant.1)

@@ -14,6 +14,5 @@ returns-then-k-lt10 c =
 pub returns : goal.returns
 unfolding decimal
 returns c =
-    let first = c.before.before.before.before.before.before.before in
-    simp (le-ltb _ _ first.if-k-lt10.false)
-    (and_then (omega arith) first.put-next.ensures c.put-2.ensures)
+    simp (le-ltb _ _ c.if-k-lt10.false)
+    (and_then (omega arith) c.put-next.ensures c.put-2.ensures)

@@ -9,10 +9,9 @@ put-requires c = omega (arith, length-decimal c.args.k)
 
 pub returns : goal.returns
 returns c =
-    let first = c.before.before.before.before.before.before.before in
     and_then (omega (
       arith,
-      length-decimal first.args.k,
-      first.requires,
+      length-decimal c.args.k,
+      c.requires,
     ))
-    first.put_decimal-next.ensures c.put.ensures
+    c.put_decimal-next.ensures c.put.ensures

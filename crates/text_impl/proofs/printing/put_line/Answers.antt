@@ -7,15 +7,11 @@ use Rattle.text_impl.proofs.printing.put_line.Goals as goal
 
 pub put_columns-requires : goal.put_columns-requires
 put_columns-requires c =
-    let first = c.before.before.before in
-    let start = first.before.before.before in
-    omega (arith, length-field start.args.q, first.put_field-after_q.ensures.end, first.put_field-after_q.auto, start.requires)
+    omega (arith, length-field c.args.q, c.put_field-after_q.ensures.end, c.put_field-after_q.auto, c.requires)
 
 pub returns : goal.returns
 returns c =
-    let first = c.before.before.before.before.before.before.before in
-    let start = first.before.before.before in
-    let a = start.args in
+    let a = c.args in
     same-print (line-columns a.q (record { code = a.code; word = a.w; used = a.used }))
-    (and_then (omega (arith, length-field a.q, start.requires)) first.put_field-after_q.ensures
+    (and_then (omega (arith, length-field a.q, c.requires)) c.put_field-after_q.ensures
     c.put_columns.ensures)

@@ -6,10 +6,8 @@ use Rattle.text_impl.proofs.printing.put_used.Goals as goal
 
 pub returns-then-used : goal.returns-then-used
 returns-then-used c =
-    let P = c.before.before.before in
-    same-print (ap used_column (sym P.if-used.true)) P.put_bytes.ensures
+    same-print (ap used_column (sym c.if-used.true)) c.put_bytes.ensures
 
 pub returns-else-used : goal.returns-else-used
 returns-else-used c =
-    let P = c.before.before.before in
-    same-print (ap used_column (sym P.if-used.false)) P.put_bytes-else-used.ensures
+    same-print (ap used_column (sym c.if-used.false)) c.put_bytes-else-used.ensures

@@ -17,11 +17,10 @@ loop-i-init c = (zero-le, write-none _ _, refl)
 
 pub loop-i-preserved : goal.loop-i-preserved
 loop-i-preserved c =
-    let start = c.before.before.before.before in
     let l = c.loop-i in (
       search rules,
-      ap₂ (λ out b. set out (start.args.at + l.i) b) l.invariant.1 c.hex_digit.ensures
-          ∙ write-digit start.args.out.now start.args.at start.args.w l.i start.requires
+      ap₂ (λ out b. set out (c.args.at + l.i) b) l.invariant.1 c.hex_digit.ensures
+          ∙ write-digit c.args.out.now c.args.at c.args.w l.i c.requires
           c.loop-i-test.true,
       simp length-set l.invariant.2,
     )

@@ -6,25 +6,19 @@ use Rattle.text_records.proofs.lines.print_number.Goals as goal
 
 pub put_numeral-behind-requires : goal.put_numeral-behind-requires
 put_numeral-behind-requires c =
-    let S = c.before.before in
-    omega (arith, S.requires, word-places S.args.q S.ranges.q.fits)
+    omega (arith, c.requires, word-places c.args.q c.ranges.q.fits)
 
 pub put-requires : goal.put-requires
 put-requires c =
-    let N = c.before.before.before in
-    let S = N.before.before.before in
     omega (
       arith,
-      S.requires,
-      word-places S.args.q S.ranges.q.fits,
-      N.put_numeral-behind.ensures.end,
-      N.put_numeral-behind.auto,
+      c.requires,
+      word-places c.args.q c.ranges.q.fits,
+      c.put_numeral-behind.ensures.end,
+      c.put_numeral-behind.auto,
     )
 
 pub returns : goal.returns
 returns c =
-    let P = c.before.before.before in
-    let N = P.before.before.before.before in
-    let S = N.before.before.before in
-    and_then (omega (arith, S.requires, word-places S.args.q S.ranges.q.fits)) N.put_numeral-behind.ensures
-    P.put.ensures
+    and_then (omega (arith, c.requires, word-places c.args.q c.ranges.q.fits)) c.put_numeral-behind.ensures
+    c.put.ensures

@@ -23,22 +23,19 @@ short S = omega (arith, word-places S.args.q S.ranges.q.fits)
 
 pub columns_at-line-requires : goal.columns_at-line-requires
 columns_at-line-requires c =
-    let N = c.before.before.before in
-    let S = N.before.before.before.before in
-    omega (arith, short S, N.print_number-from.ensures.end, length-append (numeral S.args.q) space)
+    let S = c.before.before.before.before.before.before.before in
+    omega (arith, short S, c.print_number-from.ensures.end, length-append (numeral S.args.q) space)
 
 pub put_columns-size-requires : goal.put_columns-size-requires
 put_columns-size-requires c =
-    let L = c.before.before in
-    let N = L.before.before.before in
-    let S = N.before.before.before.before in
-    let fit : LineFits L.columns_at-line.result = subst LineFits (sym L.columns_at-line.ensures) (read_fits _) in (
+    let S = c.before.before.before.before.before.before.before.before.before in
+    let fit : LineFits c.columns_at-line.result = subst LineFits (sym c.columns_at-line.ensures) (read_fits _) in (
       fit.code,
       omega (
         arith,
         short S,
-        N.print_number-from.ensures.end,
-        N.print_number-from.auto,
+        c.print_number-from.ensures.end,
+        c.print_number-from.auto,
         length-append (numeral S.args.q) space,
         S.requires,
       ),
@@ -46,28 +43,22 @@ put_columns-size-requires c =
 
 pub starts_with-fits-requires : goal.starts_with-fits-requires
 starts_with-fits-requires c =
-    let C = c.before.before.before.before in
-    let L = C.before.before in
-    let N = L.before.before.before in
-    let S = N.before.before.before.before in
+    let S = c.before.before.before.before.before.before.before.before.before.before.before.before.before in
     let long = length-append (numeral S.args.q) space in
     omega (
       arith,
       short S,
       long,
-      line-size S.args.q S.args.text.now N.print-number.ensures (omega (arith, short S, long, S.requires))
-          L.columns-at.ensures C.put-columns.ensures,
-      N.print-number.auto,
-      C.put-columns.auto,
+      line-size S.args.q S.args.text.now c.print-number.ensures (omega (arith, short S, long, S.requires))
+          c.columns-at.ensures c.put-columns.ensures,
+      c.print-number.auto,
+      c.put-columns.auto,
       S.requires,
     )
 
 pub returns : goal.returns
 returns c =
-    let C = c.before.before.before.before.before in
-    let L = C.before.before in
-    let N = L.before.before.before in
-    let S = N.before.before.before.before in
+    let S = c.before.before.before.before.before.before.before.before.before.before.before.before.before.before in
     let long = length-append (numeral S.args.q) space in
-    line-told S.args.q S.args.text.now N.print-number.ensures (omega (arith, short S, long, S.requires))
-    L.columns-at.ensures C.put-columns.ensures c.starts_with-fits.ensures.text_value c.starts_with-fits.ensures.fact
+    line-told S.args.q S.args.text.now c.print-number.ensures (omega (arith, short S, long, S.requires))
+    c.columns-at.ensures c.put-columns.ensures c.starts_with-fits.ensures.text_value c.starts_with-fits.ensures.fact

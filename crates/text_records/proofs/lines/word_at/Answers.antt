@@ -16,14 +16,12 @@ loop-k-init c = (zero-le, refl)
 
 pub loop-k-preserved : goal.loop-k-preserved
 loop-k-preserved c =
-    let h = c.before.before in
-    let b = h.before in
-    let l = b.before in (
+    (
       search rules,
       c.pushed-w.ensures
-          ∙ ap₂ (λ w d. push w (d % 16)) l.loop-k.invariant.1
-          (h.hex_value.ensures ∙ ap hex_value b.byte_at.ensures)
-          ∙ word_more _ l.loop-k.k l.loop-k-test.true,
+          ∙ ap₂ (λ w d. push w (d % 16)) c.loop-k.invariant.1
+          (c.hex_value.ensures ∙ ap hex_value c.byte_at.ensures)
+          ∙ word_more _ c.loop-k.k c.loop-k-test.true,
     )
 
 pub returns : goal.returns

@@ -34,8 +34,8 @@ abbrev followed : (A : AtLoopAt) →
     A.loop-at.at
 followed A = A.loop-at.invariant
 
-told : (R : AfterReadLineRead) → let A = R.before.before.before in
-    LineTold A.loop-at.count (from_line (text A.before.before) A.loop-at.count) R.read_line-read.result
+told : (R : AfterReadLineRead) → 
+    LineTold R.loop-at.count (from_line (text R.before.before.before.before.before) R.loop-at.count) R.read_line-read.result
 told R =
     let A = R.before.before.before in
     subst (λ t. LineTold A.loop-at.count t R.read_line-read.result) (rest-is (text A.before.before) (followed A))
@@ -55,27 +55,27 @@ loop-at-init c =
 pub returns-then-not-fits : goal.returns-then-not-fits
 returns-then-not-fits c =
     let R = c.before.before.before in
-    let I = R.before.before in
-    let A = I.before in
+    
+    let A = R.before.before.before in
     told_none (text A.before.before) c.no_form-then-not-fits.result c.no_form-then-not-fits.ensures
-    (line-missing (text A.before.before) (followed A) I.loop-at-test.true R.read_line-read.result (told R)
+    (line-missing (text A.before.before) (followed A) R.loop-at-test.true R.read_line-read.result (told R)
     (not-true _ c.if-not-fits.true-raw))
 
 -- the next line lies within the text, and has some bytes
-inside : (E : ElseNotFits) → let R = E.before in let A = R.before.before.before in
-    (A.loop-at.at + R.read_line-read.result.size ≤ length (text A.before.before)) × (0 < R.read_line-read.result.size)
+inside : (E : ElseNotFits) → 
+    (E.loop-at.at + E.read_line-read.result.size ≤ length (text E.before.before.before.before.before.before)) × (0 < E.read_line-read.result.size)
 inside E =
     let R = E.before in
-    let I = R.before.before in
-    let A = I.before in
-    next-inside (text A.before.before) (followed A) I.loop-at-test.true R.read_line-read.result (told R)
+    
+    let A = R.before.before.before in
+    next-inside (text A.before.before) (followed A) R.loop-at-test.true R.read_line-read.result (told R)
     (not-false _ E.if-not-fits.false-raw)
 
 pub overflow_add-at : goal.overflow_add-at
 overflow_add-at c =
     let E = c.before.before.before.before in
-    let A = E.before.before.before.before in
-    record { fits = omega (arith, (inside E).0, A.well_formed.0.0) }
+    
+    record { fits = omega (arith, (inside E).0, E.well_formed.0.0) }
 
 pub overflow_add-count : goal.overflow_add-count
 overflow_add-count c =
@@ -88,18 +88,16 @@ overflow_add-count c =
 pub loop-at-smaller : goal.loop-at-smaller
 loop-at-smaller c =
     let E = c.before.before.before.before in
-    let I = E.before.before.before in
-    omega (arith, inside E, I.loop-at-test.true)
+    
+    omega (arith, inside E, E.loop-at-test.true)
 
 pub loop-at-preserved : goal.loop-at-preserved
 loop-at-preserved c =
-    let P = c.before.before in
-    let E = P.before.before in
-    let R = E.before in
-    let I = R.before.before in
-    let A = I.before in
-    one-followed (text A.before.before) (followed A) I.loop-at-test.true R.read_line-read.result (told R)
-    (not-false _ E.if-not-fits.false-raw) P.put_bit-used.ensures
+    let R = c.before.before.before.before.before in
+    
+    let A = R.before.before.before in
+    one-followed (text A.before.before) (followed A) R.loop-at-test.true R.read_line-read.result (told R)
+    (not-false _ c.if-not-fits.false-raw) c.put_bit-used.ensures
 
 pub returns : goal.returns
 returns c =

@@ -11,13 +11,11 @@ overflow_sub-result c = c.loop-end.invariant.start
 
 pub returns-then-text-end-eq10 : goal.returns-then-text-end-eq10
 returns-then-text-end-eq10 c form =
-    let i = c.before.before.before in
-    newline-found i.args.text.now i.loop-end.invariant form i.loop-end-test.true c.if-text-end-eq10.true
+    newline-found c.args.text.now c.loop-end.invariant form c.loop-end-test.true c.if-text-end-eq10.true
 
 pub loop-end-preserved : goal.loop-end-preserved
 loop-end-preserved c =
-    let i = c.before.before.before in
-    one-passed i.args.text.now i.loop-end.invariant i.loop-end-test.true c.if-text-end-eq10.false
+    one-passed c.args.text.now c.loop-end.invariant c.loop-end-test.true c.if-text-end-eq10.false
 
 pub overflow_sub-result-2 : goal.overflow_sub-result-2
 overflow_sub-result-2 c = c.loop-end.invariant.start

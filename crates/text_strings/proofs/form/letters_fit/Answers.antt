@@ -12,10 +12,9 @@ loop-q-init c = none-tested _ _
 
 pub loop-q-preserved : goal.loop-q-preserved
 loop-q-preserved c =
-    let l = c.before.before.before.before in
-    let a = l.args in
-    one-tested _ _ l.loop-q.invariant c.loop-q-test.true
-    (c.is_letter-fit.ensures ∙ ap (λ k. is_letter (get_or a.text.now (a.from + k) 0)) (add-one l.loop-q.q))
+    let a = c.args in
+    one-tested _ _ c.loop-q.invariant c.loop-q-test.true
+    (c.is_letter-fit.ensures ∙ ap (λ k. is_letter (get_or a.text.now (a.from + k) 0)) (add-one c.loop-q.q))
 
 pub returns : goal.returns
 returns c = all_tested _ _ c.loop-q.invariant c.loop-q-test.false

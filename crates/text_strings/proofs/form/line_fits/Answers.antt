@@ -4,6 +4,5 @@ use Rattle.text_strings.proofs.form.line_fits.Goals as goal
 
 pub returns : goal.returns
 returns c =
-    let s = c.before.before.before in
-    let a = s.args in
-    line-tested a.text.now a.from a.n s.is_sign.ensures c.letters_fit.ensures
+    let a = c.args in
+    line-tested a.text.now a.from a.n c.is_sign.ensures c.letters_fit.ensures

@@ -14,29 +14,26 @@ loop-j-init c = (none-tested _ _, sym (zero-mul _))
 
 pub line_fits-fit-requires : goal.line_fits-fit-requires
 line_fits-fit-requires c =
-    let s = c.before.before.before.before in
     let l = c.loop-j in
-    omega (arith, l.invariant.1, line-inside s.args.text.now s.args.n l.j s.requires c.loop-j-test.true)
+    omega (arith, l.invariant.1, line-inside c.args.text.now c.args.n l.j c.requires c.loop-j-test.true)
 
 pub overflow_add-from-in-loop-j : goal.overflow_add-from-in-loop-j
 overflow_add-from-in-loop-j c =
-    let s = c.before.before.before.before.before in
     let l = c.loop-j in
     omega (
       arith,
       l.invariant.1,
-      line-inside s.args.text.now s.args.n l.j s.requires c.loop-j-test.true,
+      line-inside c.args.text.now c.args.n l.j c.requires c.loop-j-test.true,
       c.ranges,
     )
 
 pub loop-j-preserved : goal.loop-j-preserved
 loop-j-preserved c =
-    let s = c.before.before.before.before.before in
     let l = c.loop-j in (
       one-tested _ _ l.invariant.0 c.loop-j-test.true
           (c.line_fits-fit.ensures
-          ∙ ap (λ k. line_fits s.args.n (λ i. get_or s.args.text.now (k + i) 0)) l.invariant.1),
-      ap (λ k. k + (s.args.n + 2)) l.invariant.1 ∙ next-line s.args.n l.j,
+          ∙ ap (λ k. line_fits c.args.n (λ i. get_or c.args.text.now (k + i) 0)) l.invariant.1),
+      ap (λ k. k + (c.args.n + 2)) l.invariant.1 ∙ next-line c.args.n l.j,
     )
 
 pub returns : goal.returns

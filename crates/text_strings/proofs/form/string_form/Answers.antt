@@ -9,13 +9,9 @@ lines_fit-requires c = eqb-true _ _ (sym c.has_size.ensures ∙ c.if-has_size.tr
 
 pub returns-then-has_size : goal.returns-then-has_size
 returns-then-has_size c =
-    let s = c.before.before.before in
-    let a = s.before.before in
-    lines-decide a.args.text.now a.args.n a.requires (sym s.has_size.ensures ∙ c.if-has_size.true)
+    lines-decide c.args.text.now c.args.n c.requires (sym c.has_size.ensures ∙ c.if-has_size.true)
     c.lines_fit.ensures
 
 pub returns-else-has_size : goal.returns-else-has_size
 returns-else-has_size c =
-    let s = c.before.before in
-    let a = s.before.before in
-    size-decides a.args.text.now a.args.n a.requires (sym s.has_size.ensures ∙ c.if-has_size.false)
+    size-decides c.args.text.now c.args.n c.requires (sym c.has_size.ensures ∙ c.if-has_size.false)

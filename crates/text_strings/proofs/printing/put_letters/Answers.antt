@@ -11,14 +11,11 @@ loop-q-init c = none-put _ _ _ _ c.requires.1
 
 pub loop-q-preserved : goal.loop-q-preserved
 loop-q-preserved c =
-    let l = c.before.before.before.before.before in
-    let s = l.before.before in
     let i = c.loop-q-test.true in
-    one-put _ _ _ _ s.requires.1 l.loop-q.invariant i
+    one-put _ _ _ _ c.requires.1 c.loop-q.invariant i
     (c.letter_byte.ensures ∙ ap letter_byte (c.letter_of.ensures
     ∙ ap₂ letter c.has.ensures c.has-in-loop-q.ensures))
 
 pub returns : goal.returns
 returns c =
-    let s = c.before.before.before in
-    all-put _ _ _ _ s.requires.1 c.loop-q.invariant c.loop-q-test.false
+    all-put _ _ _ _ c.requires.1 c.loop-q.invariant c.loop-q-test.false

@@ -9,25 +9,17 @@ use Rattle.text_strings.proofs.printing.put_string.Goals as goal
 
 pub put-requires : goal.put-requires
 put-requires c =
-    let l = c.before.before.before in
-    let p = l.before.before.before.before in
-    let s = p.before.before.before.before in
     omega (
       arith,
-      s.requires.1,
-      p.put-letters.ensures.end,
-      p.put-letters.auto,
-      l.put_letters-end.ensures.end,
-      l.put_letters-end.auto,
-      tabulate-length s.args.n (λ q. letter_byte (letter (bit s.args.z q) (bit s.args.x q))),
+      c.requires.1,
+      c.put-letters.ensures.end,
+      c.put-letters.auto,
+      c.put_letters-end.ensures.end,
+      c.put_letters-end.auto,
+      tabulate-length c.args.n (λ q. letter_byte (letter (bit c.args.z q) (bit c.args.x q))),
     )
 
 pub returns : goal.returns
 returns c =
-    let e = c.before.before.before in
-    let l = e.before.before.before.before in
-    let p = l.before.before.before.before in
-    let b = p.before.before in
-    let s = b.before.before in
-    line-put s.args.n (is_odd s.args.sign) s.args.z s.args.x s.args.at s.args.out.now
-    s.requires.1 b.sign_byte.ensures p.put-letters.ensures l.put_letters-end.ensures e.put.ensures
+    line-put c.args.n (is_odd c.args.sign) c.args.z c.args.x c.args.at c.args.out.now
+    c.requires.1 c.sign_byte.ensures c.put-letters.ensures c.put_letters-end.ensures c.put.ensures

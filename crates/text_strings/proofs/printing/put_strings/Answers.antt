@@ -8,22 +8,16 @@ loop-j-init c = no_lines _ _ _ c.requires.out_len
 
 pub put_string-at-requires : goal.put_string-at-requires
 put_string-at-requires c =
-    let l = c.before.before.before.before.before.before in
-    let s = l.before.before.before.before.before in (
-      s.requires.n_bound.0,
-      line-room _ _ _ s.requires.out_len _ _ _ l.loop-j.invariant c.loop-j-test.true,
+    (
+      c.requires.n_bound.0,
+      line-room _ _ _ c.requires.out_len _ _ _ c.loop-j.invariant c.loop-j-test.true,
     )
 
 pub loop-j-preserved : goal.loop-j-preserved
 loop-j-preserved c =
-    let p = c.before.before.before in
-    let i = p.before.before.before.before.before in
-    let l = i.before in
-    let s = l.before.before.before.before.before in
-    one_line _ _ _ s.requires.out_len _ _ _ l.loop-j.invariant i.loop-j-test.true p.put_string-at.ensures
-    p.put_string-at.auto.1.1.1.1.1.0
+    one_line _ _ _ c.requires.out_len _ _ _ c.loop-j.invariant c.loop-j-test.true c.put_string-at.ensures
+    c.put_string-at.auto.1.1.1.1.1.0
 
 pub returns : goal.returns
 returns c =
-    let s = c.before.before.before.before.before.before.before in
-    all_lines _ _ _ s.requires.out_len c.loop-j.invariant c.loop-j-test.false
+    all_lines _ _ _ c.requires.out_len c.loop-j.invariant c.loop-j-test.false

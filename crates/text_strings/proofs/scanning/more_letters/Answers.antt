@@ -7,13 +7,12 @@ use Rattle.text_strings.proofs.scanning.more_letters.Goals as goal
 
 pub overflow_add-result : goal.overflow_add-result
 overflow_add-result c =
-    let s = c.before in
     record {
       fits = omega (
         arith,
-        s.requires.1,
+        c.requires.1,
         c.letter_bits.ensures,
-        digit_lt (z_bit (letter_of s.args.b)),
-        digit_lt (x_bit (letter_of s.args.b)),
+        digit_lt (z_bit (letter_of c.args.b)),
+        digit_lt (x_bit (letter_of c.args.b)),
       );
     }

@@ -5,17 +5,14 @@ use Rattle.text_strings.proofs.scanning.odd_letter.Goals as goal
 
 pub letter_bits-requires : goal.letter_bits-requires
 letter_bits-requires c =
-    let s = c.before.before.before.before in
-    letter-fit s.args.text.now s.args.from s.args.n (omega (arith, c.if-n-eq1.true)) s.args.n
-    s.requires.1
+    letter-fit c.args.text.now c.args.from c.args.n (omega (arith, c.if-n-eq1.true)) c.args.n
+    c.requires.1
     (omega arith)
 
 pub returns-then-n-eq1 : goal.returns-then-n-eq1
 returns-then-n-eq1 c =
-    let s = c.before.before.before.before.before in
-    odd-read s.args.text.now s.args.from s.args.n c.if-n-eq1.true c.letter_bits.ensures
+    odd-read c.args.text.now c.args.from c.args.n c.if-n-eq1.true c.letter_bits.ensures
 
 pub returns-else-n-eq1 : goal.returns-else-n-eq1
 returns-else-n-eq1 c =
-    let s = c.before.before.before in
-    even-read s.args.text.now s.args.from s.args.n c.if-n-eq1.false
+    even-read c.args.text.now c.args.from c.args.n c.if-n-eq1.false

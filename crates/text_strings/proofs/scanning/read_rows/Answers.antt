@@ -11,37 +11,33 @@ loop-j-init c = no_rows _ _ _ _ _ refl refl refl
 
 pub string_row-row-requires : goal.string_row-row-requires
 string_row-row-requires c =
-    let s = c.before.before.before.before in
     let l = c.loop-j in (
-      s.requires.0,
+      c.requires.0,
       omega (
         arith,
         l.invariant.place,
-        line-inside s.args.text.now s.args.n l.j s.requires.1 c.loop-j-test.true,
+        line-inside c.args.text.now c.args.n l.j c.requires.1 c.loop-j-test.true,
       ),
-      letters-of s.args.text.now s.args.n l.j s.requires.2 c.loop-j-test.true l.invariant.place,
+      letters-of c.args.text.now c.args.n l.j c.requires.2 c.loop-j-test.true l.invariant.place,
     )
 
 pub overflow_add-from-in-loop-j : goal.overflow_add-from-in-loop-j
 overflow_add-from-in-loop-j c =
-    let s = c.before.before.before.before.before.before in
     let l = c.loop-j in
     omega (
       arith,
       l.invariant.place,
-      line-inside s.args.text.now s.args.n l.j s.requires.1 c.loop-j-test.true,
-      s.ranges,
+      line-inside c.args.text.now c.args.n l.j c.requires.1 c.loop-j-test.true,
+      c.ranges,
     )
 
 pub loop-j-preserved : goal.loop-j-preserved
 loop-j-preserved c =
-    let s = c.before.before.before.before.before.before in
     let l = c.loop-j in
-    one-row s.args.text.now s.args.n l.signs l.z l.x l.from l.j l.invariant
-    c.loop-j-test.true s.requires.0 c.string_row-row.result c.string_row-row.ensures
+    one-row c.args.text.now c.args.n l.signs l.z l.x l.from l.j l.invariant
+    c.loop-j-test.true c.requires.0 c.string_row-row.result c.string_row-row.ensures
     c.sign_digit.ensures
 
 pub returns : goal.returns
 returns c =
-    let s = c.before.before.before.before in
-    let l = c.loop-j in let whole = all-rows s.args.text.now s.args.n l.signs l.z l.x l.invariant c.loop-j-test.false s.requires.0 in record { signs_value = whole.0; z_value = whole.1.0; x_value = whole.1.1 }
+    let l = c.loop-j in let whole = all-rows c.args.text.now c.args.n l.signs l.z l.x l.invariant c.loop-j-test.false c.requires.0 in record { signs_value = whole.0; z_value = whole.1.0; x_value = whole.1.1 }

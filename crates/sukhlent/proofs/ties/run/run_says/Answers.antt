@@ -4,5 +4,4 @@ use Rattle.sukhlent.proofs.ties.run.run_says.Goals as goal
 
 pub returns : goal.returns
 returns c =
-    let R = c.before.before.before.before.before.before.before.before.before.before.before in
-    run-says _ _ _ _ _ _ _ _ _ R.sukhlent_run.ensures
+    run-says _ _ _ _ _ _ _ _ _ c.sukhlent_run.ensures
