@@ -11,6 +11,7 @@ use Rattle.words.specs.Bits.{bit}
 use Rattle.cut_impl.proofs.Crossings.{crossing-below}
 use Rattle.cut_impl.proofs.Elimination.{all-counted, column-passed, column-stored, in-echelon, place-below, spanning-start}
 use Rattle.cut_impl.proofs.cut_rank.Goals as goal
+use Rattle.cut_impl.proofs.cut_rank.Goals.{else-rest-ne0, then-rest-ne0}
 
 pub loop-k-init : goal.loop-k-init
 unfolding zeros
@@ -42,14 +43,14 @@ loop-k-preserved c =
     let M = crossing (bit c.args.side) (graph_in c.args.neighbours.now) in
     let below = crossing-below c.args.n c.args.side (graph_in c.args.neighbours.now) _ _ c.requires.n_bound.2
     c.crossing_column-column.ensures in
-    ⊎_elim
-    (λ w. rw (w.2, w.3) (column-stored c.args.n c.requires.n_bound.0 M _ _ _ c.loop-k.invariant
-    c.loop-k-test.true _ below c.crossing_column-column.ensures _
-    c.remainder-rest.ensures w.0.true _ w.1.ensures.0))
-    (λ w. rw (w.1, w.2) (column-passed c.args.n c.requires.n_bound.0 M _ _ _ c.loop-k.invariant
-    c.loop-k-test.true _ below c.crossing_column-column.ensures _
-    c.remainder-rest.ensures w.0.left))
-    c.if-rest-ne0.branch
+    elim c.if-rest-ne0.branch [
+      then-rest-ne0 w ↦ rw (w.basis-is, w.rank-is) (column-stored c.args.n c.requires.n_bound.0 M _ _ _
+      c.loop-k.invariant c.loop-k-test.true _ below c.crossing_column-column.ensures _
+      c.remainder-rest.ensures w.if-rest-ne0.true _ w.smallest.ensures.0)
+    | else-rest-ne0 w ↦ rw (w.basis-is, w.rank-is) (column-passed c.args.n c.requires.n_bound.0 M _ _ _
+      c.loop-k.invariant c.loop-k-test.true _ below c.crossing_column-column.ensures _
+      c.remainder-rest.ensures w.if-rest-ne0.false)
+    ]
 
 pub returns : goal.returns
 returns c =

@@ -1,5 +1,4 @@
 -- `chosen_product` meets its contract: the product of the chosen rows, in index order, its phase from 0 to 3.
-use mathlib.Core.Logic.{⊎_elim}
 use mathlib.Core.Path.{◌∙◌, subst, sym}
 use Prim.Native.Nat.{◌+◌, ◌-◌}
 use native.Mathlib.Omega.{arith}
@@ -7,6 +6,7 @@ use Rattle.stabilizer.specs.Lists.{GeneratorList}
 use Rattle.call_lists.proofs.PartProducts.{PartProduct, no_part, part_off, part-on, row_read, whole-product}
 use Rattle.calls.proofs.ProductLines.{accepted-rows}
 use Rattle.call_lists.proofs.product.chosen_product.Goals as goal
+use Rattle.call_lists.proofs.product.chosen_product.Goals.{else-has, then-has}
 
 pub loop-j-init : goal.loop-j-init
 loop-j-init c = no_part _ _
@@ -31,13 +31,13 @@ loop-j-preserved c =
     let l : GeneratorList = record { n = a.n; signs = a.signs.now; z = a.z.now; x = a.x.now } in
     let test = c.has.ensures in
     let more = c.loop-j-test.true in
-    ⊎_elim
-    (λ k. subst (PartProduct l a.chosen (L.j + 1)) (sym k.3)
-    (part-on l a.chosen c.requires L.j L.product L.invariant more _ _ (sym test ∙ k.0.true) k.1.ensures
-    k.2.ensures))
-    (λ k. subst (PartProduct l a.chosen (L.j + 1)) (sym k.1)
-    (part_off l a.chosen c.requires L.j L.product L.invariant more (sym test ∙ k.0.left)))
-    c.if-has.branch
+    elim c.if-has.branch [
+      then-has k ↦ subst (PartProduct l a.chosen (L.j + 1)) (sym k.product-is)
+    (part-on l a.chosen c.requires L.j L.product L.invariant more _ _ (sym test ∙ k.if-has.true) k.row_at-row.ensures
+    k.times-product.ensures)
+    | else-has k ↦ subst (PartProduct l a.chosen (L.j + 1)) (sym k.product-is)
+    (part_off l a.chosen c.requires L.j L.product L.invariant more (sym test ∙ k.if-has.false))
+    ]
 
 pub returns : goal.returns
 returns c =

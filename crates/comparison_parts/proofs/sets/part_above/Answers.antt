@@ -1,5 +1,4 @@
 -- `part_above` meets its contract: whether some part has more than 20 vertices.
-use mathlib.Core.Logic.{⊎_elim}
 use mathlib.Core.Path.{subst, sym, ◌∙◌}
 use Prim.Native.Nat.{◌+◌, ◌-◌}
 use lib.ListN.{length}
@@ -9,6 +8,7 @@ use Rattle.comparison.specs.Parts.{part_above}
 use Rattle.stabilizer.proofs.Scanning.{found_at, found_nowhere}
 use Rattle.comparison_parts.proofs.Spreading.{Seen, is_large, large_is, seen-again, seen_more, seen_none}
 use Rattle.comparison_parts.proofs.sets.part_above.Goals as goal
+use Rattle.comparison_parts.proofs.sets.part_above.Goals.{else-not-has, then-not-has}
 
 pub loop-q-init : goal.loop-q-init
 loop-q-init c = seen_none _ _
@@ -27,13 +27,13 @@ loop-q-preserved c =
     let nb = c.args.neighbours.now in
     let n = length nb in
     let more = c.loop-q-test.true in
-    ⊎_elim
-    (λ w. seen_more n (graph_in nb) c.loop-q.seen c.loop-q.q c.loop-q.invariant more c.requires.simple w.1.result
-    w.2.result _ w.1.ensures w.2.ensures.0 (le-ltb 20 _ w.3.left) w.4)
-    (λ w. subst (λ s. Seen n (graph_in nb) s (c.loop-q.q + 1)) (sym w.1)
+    elim c.if-not-has.branch [
+      then-not-has w ↦ seen_more n (graph_in nb) c.loop-q.seen c.loop-q.q c.loop-q.invariant more c.requires.simple w.part-component.result
+    w.count.result _ w.part-component.ensures w.count.ensures.0 (le-ltb 20 _ w.if-count-gt20.left) w.seen-is
+    | else-not-has w ↦ subst (λ s. Seen n (graph_in nb) s (c.loop-q.q + 1)) (sym w.seen-is)
     (seen-again n (graph_in nb) c.loop-q.seen c.loop-q.q c.loop-q.invariant more
-    (sym c.has.ensures ∙ not-false _ w.0.left)))
-    c.if-not-has.branch
+    (sym c.has.ensures ∙ not-false _ w.if-not-has.false))
+    ]
 
 pub returns : goal.returns
 unfolding part_above

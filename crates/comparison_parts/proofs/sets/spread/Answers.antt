@@ -1,10 +1,10 @@
 -- `spread` meets its contract: the marked vertices and their neighbours.
-use mathlib.Core.Logic.{⊎_elim}
 use mathlib.Core.Path.{◌∙◌, sym}
 use Prim.Native.Nat.{◌-◌, zero-le}
 use native.Mathlib.Omega.{arith}
 use Rattle.comparison_parts.proofs.Spreading.{passed-all, passed-joined, passed-kept, passed_none}
 use Rattle.comparison_parts.proofs.sets.spread.Goals as goal
+use Rattle.comparison_parts.proofs.sets.spread.Goals.{else-has, then-has}
 
 -- src/lib.rt:22:5
 pub loop-i-init : goal.loop-i-init
@@ -21,12 +21,12 @@ loop-i-preserved c =
     let a = c.args in
     let seen = sym c.has.ensures in (
       omega arith,
-      ⊎_elim
-          (λ w. passed-joined a.neighbours.now a.marked c.loop-i.reached c.loop-i.i _ c.loop-i.invariant.1
-          (seen ∙ w.0.true) w.2)
-          (λ w. passed-kept a.neighbours.now a.marked c.loop-i.reached c.loop-i.i _ c.loop-i.invariant.1
-          (seen ∙ w.0.left) w.1)
-          c.if-has.branch,
+      elim c.if-has.branch [
+      then-has w ↦ passed-joined a.neighbours.now a.marked c.loop-i.reached c.loop-i.i _ c.loop-i.invariant.1
+          (seen ∙ w.if-has.true) w.reached-is
+    | else-has w ↦ passed-kept a.neighbours.now a.marked c.loop-i.reached c.loop-i.i _ c.loop-i.invariant.1
+          (seen ∙ w.if-has.false) w.reached-is
+    ],
     )
 
 -- src/lib.rt:15:1

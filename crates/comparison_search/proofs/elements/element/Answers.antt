@@ -1,7 +1,6 @@
 -- `element` meets its contract: an element of the second group: the row itself, or its negative, if that is one.
 use mathlib.Core.Bool.{false}
 use mathlib.Core.Path.{◌∙◌, ◌≡◌, ap, refl, subst, sym}
-use mathlib.Core.Logic.{⊎_elim}
 use Prim.Native.Nat.{◌+◌, ◌-◌}
 use native.Mathlib.Omega.{arith}
 use Rattle.words.specs.Bits.{bit}
@@ -13,6 +12,7 @@ use Rattle.comparison.specs.internal.Setting.{generators_in, generators_of}
 use Rattle.comparison.proofs.RecordElements.{framed-proper, guessed}
 use Rattle.stabilizer.proofs.Multiplying.{Multiplied, multiplied-off, multiplied-on, next-commutes, none-multiplied}
 use Rattle.comparison_search.proofs.elements.element.Goals as goal
+use Rattle.comparison_search.proofs.elements.element.Goals.{else-has, then-has}
 
 pub loop-j-init : goal.loop-j-init
 loop-j-init c = none-multiplied _ _ _ _ (Pauli-path refl zero_bit zero_bit)
@@ -37,14 +37,14 @@ loop-j-preserved c =
     let rows = generators_of (generators_in a.second.now) in
     let proper = framed-proper a.n rows c.requires.1.0 c.requires.1.1 in
     let more = c.loop-j-test.true in
-    ⊎_elim
-    (λ k. subst (λ h. Multiplied a.n rows w (l.j + 1) (generator_of h)) (sym k.3)
+    elim c.if-has.branch [
+      then-has k ↦ subst (λ h. Multiplied a.n rows w (l.j + 1) (generator_of h)) (sym k.h-is)
     (multiplied-on a.n (omega arith) rows proper.within w l.j (generator_of l.h) l.invariant more _
-    (sym test ∙ k.0.true) (k.2.ensures ∙ ap (λ g. mul 64 (generator_of l.h) (generator_of g)) k.1.ensures)))
-    (λ k. subst (λ h. Multiplied a.n rows w (l.j + 1) (generator_of h)) (sym k.1)
+    (sym test ∙ k.if-has.true) (k.times-h.ensures ∙ ap (λ g. mul 64 (generator_of l.h) (generator_of g)) k.generator_at-g.ensures))
+    | else-has k ↦ subst (λ h. Multiplied a.n rows w (l.j + 1) (generator_of h)) (sym k.h-is)
     (multiplied-off a.n (omega arith) rows proper.within w l.j (generator_of l.h) l.invariant more
-    (sym test ∙ k.0.left)))
-    c.if-has.branch
+    (sym test ∙ k.if-has.false))
+    ]
 
 pub returns : goal.returns
 returns c =

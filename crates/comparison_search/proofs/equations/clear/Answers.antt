@@ -1,6 +1,5 @@
 -- `clear` meets its contract: equation i added to those after it, up to an end, that have unknown i.
 use mathlib.Core.List.{[]}
-use mathlib.Core.Logic.{⊎_elim}
 use mathlib.Core.Path.{ap, subst, sym, ◌∙◌}
 use Prim.Native.Nat.{◌+◌, ◌-◌}
 use native.Mathlib.Omega.{arith}
@@ -10,6 +9,7 @@ use Rattle.comparison.specs.internal.Equations.{equation_of, equations_in}
 use Rattle.comparison.proofs.QubitEquations.{row_at, row-set}
 use Rattle.comparison_search.proofs.EquationsRows.{Clearing, clear-added, clear_kept, clear-start}
 use Rattle.comparison_search.proofs.equations.clear.Goals as goal
+use Rattle.comparison_search.proofs.equations.clear.Goals.{else-has_unknown, then-has_unknown}
 
 pub loop-k-init : goal.loop-k-init
 loop-k-init c =
@@ -53,15 +53,15 @@ loop-k-preserved c =
     let e = equation_of (get_or l.table l.k []) in (
       l.invariant.0,
       l.invariant.1,
-      ⊎_elim
-          (λ w. subst (λ t. Clearing first t a.i (l.k + 1) p)
-          (sym (ap equations_in w.2 ∙ row-set l.table l.k w.1.result))
+      elim c.if-has_unknown.branch [
+      then-has_unknown w ↦ subst (λ t. Clearing first t a.i (l.k + 1) p)
+          (sym (ap equations_in w.table-is ∙ row-set l.table l.k w.add.result))
           (clear-added first (equations_in l.table) a.i l.k p l.invariant.2 (omega (arith, more, l.invariant.1)) e
-          (equation_of w.1.result) (sym (row_at l.table l.k))
-          (sym c.has_unknown.ensures ∙ w.0.true) w.1.ensures))
-          (λ w. subst (λ t. Clearing first (equations_in t) a.i (l.k + 1) p) (sym w.1)
-          (clear_kept first (equations_in l.table) a.i l.k p l.invariant.2))
-          c.if-has_unknown.branch,
+          (equation_of w.add.result) (sym (row_at l.table l.k))
+          (sym c.has_unknown.ensures ∙ w.if-has_unknown.true) w.add.ensures)
+    | else-has_unknown w ↦ subst (λ t. Clearing first (equations_in t) a.i (l.k + 1) p) (sym w.table-is)
+          (clear_kept first (equations_in l.table) a.i l.k p l.invariant.2)
+    ],
     )
 
 pub returns : goal.returns

@@ -1,6 +1,5 @@
 -- `read_block` meets its contract: what is read after a block more.
 use mathlib.Core.Bool.{and-eq-true_iff}
-use mathlib.Core.Logic.{⊎_elim}
 use mathlib.Core.Path.{◌∙◌, ap, refl}
 use Prim.Native.Nat.{◌-◌, ◌<◌, zero-le}
 use native.Mathlib.Omega.{arith}
@@ -17,6 +16,7 @@ use Rattle.jobs_impl.proofs.scanning.read_block.Lts as lts
 use Rattle.jobs_impl.proofs.scanning.read_block.Reads as reads
 use Rattle.jobs_impl.proofs.scanning.read_block.Tie as tie
 use Rattle.jobs_impl.proofs.scanning.read_block.Goals as goal
+use Rattle.jobs_impl.proofs.scanning.read_block.Goals.{else-row-count, then-row-count}
 
 -- where the lemmas below stand
 abbrev AfterStepOfStep : Type 0
@@ -50,12 +50,12 @@ loop-i-preserved c =
     let sofar = as_reading l.scan l.steps in (
       search rules,
       fed-more feed _ sofar _ l.i c.loop-i-test.true l.invariant.1 (as_reading next c.if-row-count.steps)
-          (⊎_elim
-          (λ w. ap (as_reading next) w.2
-          ∙ ap (λ step. as_reading next (set l.steps l.scan.count step)) w.1.ensures
-          ∙ feed-stored sofar _ next c.scan_byte-next.ensures w.0.true)
-          (λ w. ap (as_reading next) w.1 ∙ feed-kept sofar _ next c.scan_byte-next.ensures w.0.left)
-          c.if-row-count.branch),
+          (elim c.if-row-count.branch [
+      then-row-count w ↦ ap (as_reading next) w.steps-is
+          ∙ ap (λ step. as_reading next (set l.steps l.scan.count step)) w.step_of-step.ensures
+          ∙ feed-stored sofar _ next c.scan_byte-next.ensures w.if-row-count.true
+    | else-row-count w ↦ ap (as_reading next) w.steps-is ∙ feed-kept sofar _ next c.scan_byte-next.ensures w.if-row-count.false
+    ]),
     )
 
 pub returns : goal.returns

@@ -1,7 +1,6 @@
 -- `scan_block` meets its contract: the scan after a block more; the lines that end in it, if they are of the first 64,
 -- are in the buffers.
 use mathlib.Core.Path.{refl, ◌∙◌, ap}
-use mathlib.Core.Logic.{⊎_elim}
 use mathlib.Core.Bool.{and-eq-true_iff}
 use Prim.Native.Nat.{◌<◌, ◌-◌, zero-le}
 use native.Mathlib.Omega.{arith}
@@ -17,10 +16,11 @@ use Rattle.text_impl.proofs.blocks.scan_block.Lts as lts
 use Rattle.text_impl.proofs.blocks.scan_block.Reads as reads
 use Rattle.text_impl.proofs.blocks.scan_block.Tie as tie
 use Rattle.text_impl.proofs.blocks.scan_block.Goals as goal
+use Rattle.text_impl.proofs.blocks.scan_block.Goals.{else-row-count, then-row-count}
 
 -- where the lemmas below stand
 abbrev ThenRowCount : Type 0
-ThenRowCount = lts.Then1 tie.the-claims reads.Pre reads.Post goal.the-invariant-loop-i goal.the-decreases-loop-i tie.handed_clauses
+ThenRowCount = lts.Then1 tie.the-claims reads.Pre reads.Post goal.the-invariant-loop-i goal.the-decreases-loop-i
 
 pub loop-i-init : goal.loop-i-init
 unfolding fed_bytes
@@ -57,12 +57,12 @@ loop-i-preserved c =
     let stepped = c.scan_byte-next.ensures in
     let on = fed-more feed _ sofar _ l.i inside l.invariant.1 in (
       search rules,
-      ⊎_elim
-          (λ w. (λ k. as_reading next (w.1 k) (w.2 k) (w.3 k))
-          ∙ on _ (feed-stored sofar _ _ stepped w.0.true))
-          (λ w. (λ k. as_reading next (w.1 k) (w.2 k) (w.3 k))
-          ∙ on _ (feed-kept sofar _ _ stepped w.0.left))
-          c.if-row-count.branch,
+      elim c.if-row-count.branch [
+      then-row-count w ↦ (λ k. as_reading next (w.signs-is k) (w.z-is k) (w.x-is k))
+          ∙ on _ (feed-stored sofar _ _ stepped w.if-row-count.true)
+    | else-row-count w ↦ (λ k. as_reading next (w.signs-is k) (w.z-is k) (w.x-is k))
+          ∙ on _ (feed-kept sofar _ _ stepped w.if-row-count.false)
+    ],
     )
 
 pub returns : goal.returns
