@@ -33,17 +33,17 @@ asked S = cz_on S.args.a S.args.b
 -- the number of its lines
 number : (E : AfterInPlaceNumberEarly)
     → E.in_place_number-early.result
-    ≡ first_fitting (used_lines_of (lent E.before.before.before.before.before.before.before.before.before)
-    (asked E.before.before.before.before.before.before.before.before.before))
+    ≡ first_fitting (used_lines_of (lent E.before.before.before.before.before.before)
+    (asked E.before.before.before.before.before.before))
 number E =
-    let S = E.before.before.before.before.before.before.before in
+    let S = E.before.before.before.before.before.before in
     let a = S.args in
     named-as (lent S) false (leb a.n a.a || (leb a.n a.b || eqb a.a a.b))
-    E.in_place_number-early.ensures (ap₂ ◌||◌ E.bit_at.ensures E.bit-at2.ensures)
+    E.in_place_number-early.ensures (ap₂ ◌||◌ E.bit_at.ensures E.bit_at-2.ensures)
 
 pub first_look-seen-requires : goal.first_look-seen-requires
 first_look-seen-requires c =
-    let S = c.before.before.before.before.before.before in
+    let S = c.before.before.before.before.before in
     known-codes (lent S) S.requires
 
 pub returns-then-early-ne0 : goal.returns-then-early-ne0
@@ -51,18 +51,18 @@ returns-then-early-ne0 c = refused _ (number c.before) c.if-early-ne0.true (refl
 
 pub found-touched-requires : goal.found-touched-requires
 found-touched-requires c =
-    let S = c.before.before.before.before.before.before.before.before in
+    let S = c.before.before.before.before.before.before.before in
     let ready = cz-ready (lent S).held S.args.a S.args.b
-    (as_before (lent S) (asked S) (number c.before.before) c.if1.false) in record { codes_len_bound = unrefused-codes _ _ ready.0; found = c.first-look.ensures.1 }
+    (as_before (lent S) (asked S) (number c.before) c.if-early-ne0.false) in record { codes_len_bound = unrefused-codes _ _ ready.0; found = c.first_look-seen.ensures.found }
 
 pub cz_record-requires : goal.cz_record-requires
 cz_record-requires c =
-    let S = c.before.before.before.before.before.before.before.before.before.before.before in
+    let S = c.before.before.before.before.before.before.before.before.before.before in
     let ready = cz-ready (lent S).held S.args.a S.args.b
-    (as_before (lent S) (asked S) (number c.before.before.before.before.before) c.if1.false) in record { unrefused = ready.0; a_in_bounds = ready.1; suspected = marked-words _ _ _ ready.0 c.found-touched.ensures }
+    (as_before (lent S) (asked S) (number c.before.before.before.before) c.if-early-ne0.false) in record { unrefused = ready.0; a_in_bounds = ready.1; suspected = marked-words _ _ _ ready.0 c.found-touched.ensures }
 
 pub returns : goal.returns
-returns c =
-    let S = c.before.before.before.before.before.before.before.before.before.before.before.before.before.before.before.before.before in
-    in-place-done (lent S) (asked S) (number c.before.before.before.before.before.before.before.before.before.before.before) c.if1.false
+returns-then-early-ne0 c =
+    let S = c.before.before.before.before.before.before.before.before.before.before.before.before.before.before.before.before in
+    in-place-done (lent S) (asked S) (number c.before.before.before.before.before.before.before.before.before.before) c.if-early-ne0.false
     c.cz_record.ensures.neighbours c.cz_record.ensures.numbers

@@ -32,16 +32,16 @@ asked S = gate_with S.args.qubit S.args.code
 -- the number of its lines
 number : (E : AfterInPlaceNumberEarly)
     → E.in_place_number-early.result
-    ≡ first_fitting (used_lines_of (lent E.before.before.before.before.before.before.before.before)
-    (asked E.before.before.before.before.before.before.before.before))
+    ≡ first_fitting (used_lines_of (lent E.before.before.before.before.before)
+    (asked E.before.before.before.before.before))
 number E =
-    let S = E.before.before.before.before.before.before in
+    let S = E.before.before.before.before.before in
     named-as (lent S) (leb 24 S.args.code) (leb S.args.n S.args.qubit) E.in_place_number-early.ensures
-    E.bit_at.ensures
+    E.bit_at-sixteen.ensures
 
 pub first_look-seen-requires : goal.first_look-seen-requires
 first_look-seen-requires c =
-    let S = c.before.before.before.before.before in
+    let S = c.before.before.before.before in
     known-codes (lent S) S.requires
 
 pub returns-then-early-ne0 : goal.returns-then-early-ne0
@@ -49,18 +49,18 @@ returns-then-early-ne0 c = refused _ (number c.before) c.if-early-ne0.true (refl
 
 pub found-touched-requires : goal.found-touched-requires
 found-touched-requires c =
-    let S = c.before.before.before.before.before.before.before in
+    let S = c.before.before.before.before.before.before in
     let ready = gate-ready (lent S).held S.args.qubit S.args.code
-    (as_before (lent S) (asked S) (number c.before.before) c.if1.false) in record { codes_len_bound = unrefused-codes _ _ ready.0; found = c.first-look.ensures.1 }
+    (as_before (lent S) (asked S) (number c.before) c.if-early-ne0.false) in record { codes_len_bound = unrefused-codes _ _ ready.0; found = c.first_look-seen.ensures.found }
 
 pub gate_record-requires : goal.gate_record-requires
 gate_record-requires c =
-    let S = c.before.before.before.before.before.before.before.before.before.before in
+    let S = c.before.before.before.before.before.before.before.before.before in
     let ready = gate-ready (lent S).held S.args.qubit S.args.code
-    (as_before (lent S) (asked S) (number c.before.before.before.before.before) c.if1.false) in record { unrefused = ready.0; q_in_bounds = ready.1; suspected = marked-words _ _ _ ready.0 c.found-touched.ensures }
+    (as_before (lent S) (asked S) (number c.before.before.before.before) c.if-early-ne0.false) in record { unrefused = ready.0; q_in_bounds = ready.1; suspected = marked-words _ _ _ ready.0 c.found-touched.ensures }
 
 pub returns : goal.returns
-returns c =
-    let S = c.before.before.before.before.before.before.before.before.before.before.before.before.before.before.before.before in
-    in-place-done (lent S) (asked S) (number c.before.before.before.before.before.before.before.before.before.before.before) c.if1.false
+returns-then-early-ne0 c =
+    let S = c.before.before.before.before.before.before.before.before.before.before.before.before.before.before.before in
+    in-place-done (lent S) (asked S) (number c.before.before.before.before.before.before.before.before.before.before) c.if-early-ne0.false
     c.gate_record.ensures.neighbours c.gate_record.ensures.numbers

@@ -30,19 +30,19 @@ abbrev asked : Start → Operation
 asked S = cz_on S.args.a S.args.b
 
 -- the number of the lines before 8
-number : (E : AfterPartyRefusalEarly) → let S = E.before.before.before.before.before.before.before in
+number : (E : AfterPartyRefusalEarly) → let S = E.before.before.before.before.before in
     E.party_refusal-early.result ≡ first_fitting (before_eight S.args.word S.args.party (lent S) (six_of (asked S))
     (names_other (in_party S.args.word S.args.party) S.args.n (asked S)))
 number E =
-    let S = E.before.before.before.before.before.before in
+    let S = E.before.before.before.before.before in
     other-as S.args.word S.args.party (lent S) (six_of (asked S)) E.party_refusal-early.ensures
-    (ap₂ ◌||◌ E.outside.ensures E.outside2.ensures)
+    (ap₂ ◌||◌ E.outside.ensures E.outside-2.ensures)
 
 pub returns-then-early-ne0 : goal.returns-then-early-ne0
 returns-then-early-ne0 c =
     let E = c.before in
     
-    let S = E.before.before.before.before.before.before in
+    let S = E.before.before.before.before.before in
     refused _ (early-refused S.args.word S.args.party (lent S) (asked S) (cz-op _ _) (number E) c.if-early-ne0.true)
     c.if-early-ne0.true (refl, (refl, tt))
 
@@ -50,5 +50,5 @@ pub cz_within-requires : goal.cz_within-requires
 cz_within-requires c =
     let E = c.before.before.before.before.before in
     
-    let S = E.before.before.before.before.before.before in record { admitted = early-admitted S.args.word S.args.party (lent S) (asked S)
+    let S = E.before.before.before.before.before in record { admitted = early-admitted S.args.word S.args.party (lent S) (asked S)
           (number E) c.if-early-ne0.false; words_len = (refl {a = 64}, refl {a = 64}) }

@@ -21,18 +21,18 @@ abbrev asked : Start → Operation
 asked S = gate_with S.args.qubit S.args.code
 
 pub take_party-own_used-requires : goal.take_party-own_used-requires
-take_party-own_used-requires c = let S = c.before.before.before.before.before.before.before.before in record { neighbours_len = lent-64 S.args.word S.args.party (lent S) (asked S) S.requires.admitted; words_len = S.requires.words_len }
+take_party-own_used-requires c = let S = c.before.before.before.before.before.before in record { neighbours_len = lent-64 S.args.word S.args.party (lent S) (asked S) S.requires.admitted; words_len = S.requires.words_len }
 
 pub gate_known-number-requires : goal.gate_known-number-requires
 gate_known-number-requires c =
-    let S = c.before.before.before.before.before.before.before.before.before.before.before.before.before.before in
+    let S = c.before.before.before.before.before.before.before.before.before.before.before.before.before in
     let a = S.args in
     copy-unrefused a.word a.party (lent S) (asked S) S.requires.admitted
     (copied-whole a.word a.party (lent S) (asked S) S.requires.admitted _ _ _ c.take_party-own_used.ensures)
 
 pub returns-then-number-ne0 : goal.returns-then-number-ne0
 returns-then-number-ne0 c =
-    let S = c.before.before.before.before.before.before.before.before.before.before.before.before.before.before.before.before.before.before.before.before.before in
+    let S = c.before.before.before.before.before.before.before.before.before.before.before.before.before.before.before.before.before.before.before.before in
     let a = S.args in
     party-refused a.word a.party (lent S) (asked S) S.requires.admitted
     (copied-whole a.word a.party (lent S) (asked S) S.requires.admitted _ _ _ c.take_party-own_used.ensures)
@@ -40,17 +40,17 @@ returns-then-number-ne0 c =
 
 pub put_party-requires : goal.put_party-requires
 put_party-requires c =
-    let S = c.before.before.before.before.before.before.before.before.before.before.before.before.before.before.before.before.before.before.before.before.before.before in
+    let S = c.before.before.before.before.before.before.before.before.before.before.before.before.before.before.before.before.before.before.before.before.before in
     let L = lent-64 S.args.word S.args.party (lent S) (asked S) S.requires.admitted in record { words_len = (
-        c.words2.given
-            ∙ c.words.given ∙ S.requires.words_len.0,
-        c.bytes2.given ∙ c.bytes.given ∙ S.requires.words_len.1,
+        c.words-2-1.given
+            ∙ c.words-1.given ∙ S.requires.words_len.0,
+        c.bytes-2-1.given ∙ c.bytes-1.given ∙ S.requires.words_len.1,
       ); neighbours_len = L }
 
 pub returns : goal.returns
-returns c =
-    let S = c.before.before.before.before.before.before.before.before.before.before.before.before.before.before.before.before.before.before.before.before.before.before.before.before.before.before.before.before in
+returns-then-number-ne0 c =
+    let S = c.before.before.before.before.before.before.before.before.before.before.before.before.before.before.before.before.before.before.before.before.before.before.before.before.before.before.before in
     let a = S.args in
     party-done a.word a.party (lent S) (asked S) S.requires.admitted
-    (copied-whole a.word a.party (lent S) (asked S) S.requires.admitted _ _ _ c.take-party.ensures)
-    (gate-op _ _) c.gate-known.ensures c.if1.false c.put_party.ensures
+    (copied-whole a.word a.party (lent S) (asked S) S.requires.admitted _ _ _ c.take_party-own_used.ensures)
+    (gate-op _ _) c.gate_known-number.ensures c.if-number-ne0.false c.put_party.ensures

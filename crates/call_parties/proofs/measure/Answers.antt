@@ -29,19 +29,19 @@ abbrev asked : Start → Operation
 asked S = measurement_of S.args.pauli S.args.qubit S.args.outcome
 
 -- the number of the lines before 8
-number : (E : AfterPartyRefusalEarly) → let S = E.before.before.before.before.before.before.before in
+number : (E : AfterPartyRefusalEarly) → let S = E.before.before.before.before.before in
     E.party_refusal-early.result ≡ first_fitting (before_eight S.args.word S.args.party (lent S) (six_of (asked S))
     (names_other (in_party S.args.word S.args.party) S.args.n (asked S)))
 number E =
-    let S = E.before.before.before.before.before.before in
+    let S = E.before.before.before.before.before in
     other-as S.args.word S.args.party (lent S) (six_of (asked S)) E.party_refusal-early.ensures
-    E.outside.ensures
+    E.outside-other.ensures
 
 pub returns-then-early-ne0 : goal.returns-then-early-ne0
 returns-then-early-ne0 c =
     let E = c.before in
     
-    let S = E.before.before.before.before.before.before in
+    let S = E.before.before.before.before.before in
     refused _ (early-refused S.args.word S.args.party (lent S) (asked S) (measure-op _ _ _)
     (number E) c.if-early-ne0.true)
     c.if-early-ne0.true (refl, (refl, (refl, (refl, (refl, tt)))))
@@ -50,5 +50,5 @@ pub measure_within-requires : goal.measure_within-requires
 measure_within-requires c =
     let E = c.before.before.before.before.before.before.before.before.before in
     
-    let S = E.before.before.before.before.before.before in record { admitted = early-admitted S.args.word S.args.party (lent S) (asked S)
+    let S = E.before.before.before.before.before in record { admitted = early-admitted S.args.word S.args.party (lent S) (asked S)
           (number E) c.if-early-ne0.false; words_len = (refl {a = 64}, refl {a = 64}) }

@@ -27,10 +27,10 @@ abbrev lent : Start → UsedRecord
 lent S = used_record S.args.n S.args.neighbours.now S.args.codes.now S.args.used.now
 
 -- accepted, no line of the arguments held without the used word
-before : (D : ElseEarlyNe0) → let S = D.before.before.before.before.before.before.before in
+before : (D : ElseEarlyNe0) → let S = D.before.before.before.before.before in
     first_fitting (argument_lines (lent S).held S.args.pauli S.args.qubit S.args.bit) ≡ 0
 before D =
-    let S = D.before.before.before.before.before.before in
+    let S = D.before.before.before.before.before in
     let a = S.args in
     arguments-before (lent S) a.pauli a.qubit a.bit (sym D.argument_refusal-early.ensures ∙ D.if-early-ne0.false)
 
@@ -40,14 +40,14 @@ returns-then-early-ne0 c = refused _ c.argument_refusal-early.ensures c.if-early
 pub measure_record-measured-requires : goal.measure_record-measured-requires
 measure_record-measured-requires c =
     let D = c.before.before.before in
-    let S = D.before.before.before.before.before.before.before in
+    let S = D.before.before.before.before.before in
     let a = S.args in let whole = measure-ready (lent S).held a.pauli a.qubit a.bit
     (before D) in record { unrefused = whole.0; le_pauli = whole.1 }
 
 pub single-requires : goal.single-requires
 single-requires c =
     let D = c.before.before.before.before.before.before.before.before.before.before in
-    let S = D.before.before.before.before.before.before.before in
+    let S = D.before.before.before.before.before in
     let a = S.args in
     omega (
       arith,
@@ -57,8 +57,8 @@ single-requires c =
     )
 
 pub returns : goal.returns
-returns c =
-    let S = c.before.before.before.before.before.before.before.before.before.before.before.before.before.before.before.before.before in
+returns-then-early-ne0 c =
+    let S = c.before.before.before.before.before.before.before.before.before.before.before.before.before.before.before.before in
     let a = S.args in
     observe-done (lent S) a.pauli a.qubit a.bit a.answer.now a.determined.now
     c.argument_refusal-early.ensures c.if-early-ne0.false _ _ _ c.measure_record-measured.ensures _ _ _

@@ -16,21 +16,21 @@ store S = record { heads = S.args.heads.now; neighbours = S.args.held_neighbours
 
 pub returns-then-early-ne0 : goal.returns-then-early-ne0
 returns-then-early-ne0 c =
-    let S = c.before.before.before.before.before.before.before in
+    let S = c.before.before.before.before.before.before in
     forget-refused _ (store S) _ c.store_refusal-early.ensures c.if-early-ne0.true
 
 pub returns-then-place-ge8 : goal.returns-then-place-ge8
 returns-then-place-ge8 c =
-    let S = c.before.before.before.before.before.before.before.before.before in
-    forget-not-held _ (store S) _ c.store-refusal.ensures c.if1.false _ c.find-place.ensures c.if-place-ge8.true
+    let S = c.before.before.before.before.before.before.before.before in
+    forget-not-held _ (store S) _ c.store_refusal-early.ensures c.if-early-ne0.false _ c.find-place.ensures c.if-place-ge8.true
 
 pub bounds-heads-place : goal.bounds-heads-place
 bounds-heads-place c =
-    let S = c.before.before.before.before.before.before.before.before.before in
-    head-inside S.args.name (store S) _ c.store-refusal.ensures c.if1.false _ c.find-place.ensures
+    let S = c.before.before.before.before.before.before.before.before in
+    head-inside S.args.name (store S) _ c.store_refusal-early.ensures c.if-early-ne0.false _ c.find-place.ensures
     c.if-place-ge8.false
 
 pub returns : goal.returns
-returns c =
-    let S = c.before.before.before.before.before.before.before.before.before in
-    forget-done _ (store S) _ c.store-refusal.ensures c.if1.false _ c.find-place.ensures c.if-place-ge8.false
+returns-then-early-ne0 c =
+    let S = c.before.before.before.before.before.before.before.before in
+    forget-done _ (store S) _ c.store_refusal-early.ensures c.if-early-ne0.false _ c.find-place.ensures c.if-place-ge8.false

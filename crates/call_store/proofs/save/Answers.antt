@@ -23,29 +23,29 @@ store S = record { heads = S.args.heads.now; neighbours = S.args.held_neighbours
 
 pub returns-then-early-ne0 : goal.returns-then-early-ne0
 returns-then-early-ne0 c =
-    let S = c.before.before.before.before.before.before.before.before.before in
+    let S = c.before.before.before.before.before.before.before.before in
     save-refused (lent S) (store S) _ _ c.save_refusal-early.ensures c.if-early-ne0.true
 
 pub returns-then-place-ge8 : goal.returns-then-place-ge8
 returns-then-place-ge8 c =
-    let S = c.before.before.before.before.before.before.before.before.before.before.before in
-    save-full (lent S) (store S) _ _ c.save-refusal.ensures c.if1.false _ c.place_for-place.ensures c.if-place-ge8.true
+    let S = c.before.before.before.before.before.before.before.before.before.before in
+    save-full (lent S) (store S) _ _ c.save_refusal-early.ensures c.if-early-ne0.false _ c.place_for-place.ensures c.if-place-ge8.true
 
 pub put_head-requires : goal.put_head-requires
 put_head-requires c =
-    let S = c.before.before.before.before.before.before.before.before.before.before.before.before in
-    head-fits (lent S) (store S) _ _ c.save-refusal.ensures c.if1.false _ c.place_for-place.ensures c.if-place-ge8.false
+    let S = c.before.before.before.before.before.before.before.before.before.before.before in
+    head-fits (lent S) (store S) _ _ c.save_refusal-early.ensures c.if-early-ne0.false _ c.place_for-place.ensures c.if-place-ge8.false
 
 pub put_record-requires : goal.put_record-requires
 put_record-requires c =
-    let S = c.before.before.before.before.before.before.before.before.before.before.before.before.before.before.before.before.before in let whole = record-fits (lent S) (store S) _ _ c.save-refusal.ensures c.if1.false _ c.place_for-place.ensures
+    let S = c.before.before.before.before.before.before.before.before.before.before.before.before.before.before.before.before in let whole = record-fits (lent S) (store S) _ _ c.save_refusal-early.ensures c.if-early-ne0.false _ c.place_for-place.ensures
     c.if-place-ge8.false in record { i_bound = whole.0; neighbours_in_bounds = whole.1 }
 
 pub returns : goal.returns
-returns c =
-    let S = c.before.before.before.before.before.before.before.before.before.before.before.before.before.before.before.before.before.before.before.before.before.before in
+returns-then-early-ne0 c =
+    let S = c.before.before.before.before.before.before.before.before.before.before.before.before.before.before.before.before.before.before.before.before.before in
     let a = S.args in
-    save-done (lent S) (store S) _ _ c.save-refusal.ensures c.if1.false _ c.place_for-place.ensures c.if-place-ge8.false
+    save-done (lent S) (store S) _ _ c.save_refusal-early.ensures c.if-early-ne0.false _ c.place_for-place.ensures c.if-place-ge8.false
     _ _ _
     (c.put_head.ensures ∙ ap (λ q. headed q a.n a.name a.used a.heads.now) c.place_for-place.ensures)
     (c.put_record.ensures.0 ∙ ap (λ q. placed_at q a.neighbours.now a.held_neighbours.now)

@@ -35,14 +35,14 @@ returns-then-bad_count c =
 pub slice_bounds-used_refusal-end : goal.slice_bounds-used_refusal-end
 slice_bounds-used_refusal-end c =
     sym (part-long c.args.n c.args.neighbours.now
-    (counted c.args.n (sym c.bad-count.ensures ∙ c.if1.false)).1 c.requires.0)
+    (counted c.args.n (sym c.bad_count.ensures ∙ c.if-bad_count.false)).1 c.requires.0)
 
 pub slice_bounds-used_refusal-end-2 : goal.slice_bounds-used_refusal-end-2
 slice_bounds-used_refusal-end-2 c =
     sym (part-long c.args.n c.args.codes.now
-    (counted c.args.n (sym c.bad-count.ensures ∙ c.if1.false)).1 c.requires.1)
+    (counted c.args.n (sym c.bad_count.ensures ∙ c.if-bad_count.false)).1 c.requires.1)
 
 pub returns : goal.returns
-returns c =
-    let S = c.before.before.before.before.before.before.before in
+returns-then-bad_count c =
+    let S = c.before.before.before.before.before.before in
     no-further (lent S) _ _ c.used_refusal.ensures

@@ -19,26 +19,26 @@ use Rattle.comparison_search.proofs.least_choice.Goals as goal
 pub least_classes-answer-requires : goal.least_classes-answer-requires
 least_classes-answer-requires c =
     let a = c.args in
-    let T = c.class-table in (
+    let T = c.class_table in (
       c.requires.setting.few,
       T.ensures.triangular,
       classes-extend a.n (generators_in a.first.now) (generators_in a.second.now) a.frame c.requires.setting
-          (equations_in T.new.0) T.ensures,
+          (equations_in c.class_table.new.table) T.ensures,
     )
 
 pub wipe-requires : goal.wipe-requires
 wipe-requires c =
     let a = c.args in
-    let T = c.class-table in (
+    let T = c.class_table in (
       omega (arith, c.requires.setting.few),
       class-ends a.n (generators_in a.first.now) (generators_in a.second.now) a.frame c.requires.setting
-          (equations_in T.new.0) T.ensures,
+          (equations_in c.class_table.new.table) T.ensures,
     )
 
 pub returns-then-not-answer : goal.returns-then-not-answer
 returns-then-not-answer c =
     let a = c.args in
-    let T = c.class-table in
+    let T = c.class_table in
     let A = c.least_classes-answer in
     let none = not-true A.result.found c.if-not-answer.true in record { least_answer = subst (λ b. LeastAnswer a.n (generators_of (generators_in a.first.now))
           (generators_of (generators_in a.second.now)) b A.result.choice) (sym none)
@@ -48,17 +48,17 @@ returns-then-not-answer c =
           c.requires.setting.framed).within false
           A.result.choice
           (none-works a.n (generators_in a.first.now) (generators_in a.second.now) a.frame c.requires.setting
-          (equations_in T.new.0) T.ensures A.result.found
+          (equations_in c.class_table.new.table) T.ensures A.result.found
           A.result.choice A.ensures none)); empty_from_2 = c.wipe.ensures }
 
 pub sign_table-requires : goal.sign_table-requires
 sign_table-requires c =
     let a = c.args in
-    let T = c.class-table in
+    let T = c.class_table in
     let A = c.least_classes-answer in
     let C = A.ensures.some (not-false A.result.found c.if-not-answer.false) in record { setting = (c.requires.setting, C.codes, C.bare-codes); sent_up_to_sign = (
         classes-send a.n (generators_in a.first.now) (generators_in a.second.now) a.frame c.requires.setting
-            (equations_in T.new.0) T.ensures
+            (equations_in c.class_table.new.table) T.ensures
             (codes_of A.result.choice) C.chosen.hold,
         c.wipe.ensures,
       ) }
@@ -66,38 +66,38 @@ sign_table-requires c =
 pub least_signs-choice-requires : goal.least_signs-choice-requires
 least_signs-choice-requires c =
     let a = c.args in
-    let T = c.class-table in
-    let A = c.least-classes in
-    let C = A.ensures.some (not-false A.result.found c.if1.false) in
-    let U = c.sign-table in record { n_bound = (
+    let T = c.class_table in
+    let A = c.least_classes-answer in
+    let C = A.ensures.some (not-false A.result.found c.if-not-answer.false) in
+    let U = c.sign_table in record { n_bound = (
         c.requires.setting.few,
         U.ensures.0.triangular,
         signs-extend a.n (generators_in a.first.now) (generators_in a.second.now) a.frame c.requires.setting
             (codes_of A.result.choice)
-            (equations_in U.new.0) U.ensures
+            (equations_in c.sign_table.new.table) U.ensures
             (classes-send a.n (generators_in a.first.now) (generators_in a.second.now) a.frame c.requires.setting
-            (equations_in T.new.0) T.ensures
+            (equations_in c.class_table.new.table) T.ensures
             (codes_of A.result.choice) C.chosen.hold),
       ); codes = A.ensures.codes }
 
 pub wipe-requires-2 : goal.wipe-requires-2
 wipe-requires-2 c =
     let a = c.args in
-    let A = c.least-classes in
-    let U = c.sign-table in (
+    let A = c.least_classes-answer in
+    let U = c.sign_table in (
       omega (arith, c.requires.setting.few),
       sign-ends a.n (generators_in a.first.now) (generators_in a.second.now) a.frame c.requires.setting
-          (equations_in U.new.0) (codes_of A.result.choice) U.ensures,
+          (equations_in c.sign_table.new.table) (codes_of A.result.choice) U.ensures,
     )
 
 pub returns : goal.returns
-returns c =
+returns-then-not-answer c =
     let a = c.args in
-    let T = c.class-table in
-    let A = c.least-classes in
+    let T = c.class_table in
+    let A = c.least_classes-answer in
     let C = A.ensures.some
-    (not-false A.result.found c.if1.false) in
-    let U = c.sign-table in
+    (not-false A.result.found c.if-not-answer.false) in
+    let U = c.sign_table in
     let L = c.least_signs-choice in record { least_answer = least-answer a.n (generators_of (generators_in a.first.now)) (generators_of (generators_in a.second.now))
           c.requires.setting.proper.within
           (framed-proper a.n (generators_of (generators_in a.second.now)) (codes_of a.frame)
@@ -105,4 +105,4 @@ returns c =
           L.result
           (chosen-works a.n (generators_in a.first.now) (generators_in a.second.now) a.frame c.requires.setting
           (equations_in T.last.0) T.ensures
-          A.result.choice C (equations_in U.new.0) U.ensures L.result L.ensures); empty_from_2 = c.wipe-2.ensures }
+          A.result.choice C (equations_in c.sign_table.new.table) U.ensures L.result L.ensures); empty_from_2 = c.wipe-2.ensures }

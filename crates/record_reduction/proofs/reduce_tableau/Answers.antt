@@ -119,9 +119,7 @@ abbrev rows_in : InLoop3 → ℕ → Pauli
 rows_in c = relative (bit c.loop-q.signs) c.loop-q.rows
 
 abbrev free_in : Then2 → ℕ
-free_in c =
-    bit_xor c.loop-j.holders (bit_and c.loop-j.holders (turn
-    c).loop-q.pivots)
+free_in c = bit_xor c.loop-j.holders (bit_and c.loop-j.holders (turn c).loop-q.pivots)
 
 -- the rows after row q was lent the bit, by the first of them
 abbrev lent-in : Then2 → ℕ → Pauli
@@ -170,8 +168,7 @@ related c =
     paired-end S.args.rows S.args.signs S.args.n L.signs L.k L.invariant c.loop-k-test.false
     S.requires.loaded
 
-loaded : (c : AtLoop2) → Loaded (start-2 c).args.n (relative (bit c.loop-k.signs) (start-2
-    c).args.rows)
+loaded : (c : AtLoop2) → Loaded (start-2 c).args.n (relative (bit c.loop-k.signs) (start-2 c).args.rows)
 loaded c = related-loaded (start-2 c).args.n (related c) (start-2 c).requires.loaded
 
 -- ---- the rounds
@@ -246,8 +243,7 @@ loop-j-preserved c =
     )
 
 holders : (c : AfterLoop4) (j : ℕ) → bit c.loop-j.holders j
-    ≡ (ltb j (start-3 (turn-4 c)).args.n && bit (get_or (get_or (turn-4 c).loop-q.rows j []) 1 0) (turn-4
-    c).loop-q.q)
+    ≡ (ltb j (start-3 (turn-4 c)).args.n && bit (get_or (get_or (turn-4 c).loop-q.rows j []) 1 0) (turn-4 c).loop-q.q)
 holders c =
     let C = (turn-4 c) in
     let L = c.loop-j in
@@ -479,8 +475,7 @@ minus_word-minus-requires c =
     
     next-commutes K.if-not-has-2.rows (signs-before K) (column-laid K) K.put_bit-rest.result L.rows
     (without_sign L.signs (bit (signs-laid K) (column-laid K)) L.rest) L.rest N.smallest-i-in-loop-rest.result L.invariant
-    (next
-    N).1 (next N).0
+    (next N).1 (next N).0
     (commutes K)
 
 pub offset_bounds-rows-i-in-loop-rest-2 : goal.offset_bounds-rows-i-in-loop-rest-2
@@ -519,8 +514,7 @@ loop-rest-preserved c =
     
     shear-step P.if-not-has-2.rows (signs-before K) (column-laid K) P.put_bit-rest.result L.rows
     (without_sign L.signs (bit (signs-laid K) (column-laid K)) L.rest) L.rest N.smallest-i-in-loop-rest.result L.invariant
-    (next
-    N).1 (next N).0
+    (next N).1 (next N).0
     (commutes K) _
     (without_sign c.flip_odd-signs.result (bit (signs-laid K) (column-laid K)) c.without_smallest-rest.result) _
     (is_odd (ones c.minus_word-minus.result)) c.minus_word-minus.ensures refl
@@ -531,10 +525,8 @@ loop-rest-preserved c =
 
 -- column q has its pivot
 pivot-done : (c : AfterLoop5) (j : ℕ) → relative (bit c.loop-rest.signs) c.loop-rest.rows j
-    ≡ pivot_on 64 (rows_in (turn c.before.before.before.before.before.before.before.before.before)) (turn
-    c.before.before.before.before.before.before.before.before.before).loop-q.q
-    (count_trailing_zeros 64 (free_in
-    c.before.before.before.before.before.before.before.before.before)) j
+    ≡ pivot_on 64 (rows_in (turn c.before.before.before.before.before.before.before.before.before)) (turn c.before.before.before.before.before.before.before.before.before).loop-q.q
+    (count_trailing_zeros 64 (free_in c.before.before.before.before.before.before.before.before.before)) j
 pivot-done c j =
     let L = c.loop-rest in
     let K = c.before.before in
@@ -742,7 +734,7 @@ write_record-requires c =
           c.if-pivots-all.false j }
 
 pub returns : goal.returns
-returns c =
+returns-then-pivots-all c =
     let E = c.before.before.before.before.before.before.before.before.before in
     let A = E.before in
     

@@ -13,11 +13,11 @@ normalise-requires c =
 
 pub line_at-requires : goal.line_at-requires
 line_at-requires c =
-    normalised-plottable _ _ (copied-unrefused c.copy-record.ensures c.requires.unrefused) _ _
-    c.normalise.ensures _ c.lowest.ensures
+    normalised-plottable _ _ (copied-unrefused c.copy_record.ensures c.requires.unrefused) _ _
+    c.normalise.ensures _ c.lowest-low.ensures
 
 pub returns : goal.returns
 returns c =
     c.line_at.ensures
-    ∙ normalised-plots _ _ (copied-unrefused c.copy-record.ensures c.requires.unrefused) _ _ c.normalise.ensures _
-    ∙ copied-plots _ _ _ _ c.copy-record.ensures _
+    ∙ normalised-plots _ _ (copied-unrefused c.copy_record.ensures c.requires.unrefused) _ _ c.normalise.ensures _
+    ∙ copied-plots _ _ _ _ c.copy_record.ensures _

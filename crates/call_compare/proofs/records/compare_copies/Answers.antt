@@ -15,11 +15,11 @@ reduce_copy-requires-2 c =
 
 pub compare_reduced-requires : goal.compare_reduced-requires
 compare_reduced-requires c =
-    let a = c.args in record { accepted_record = reduced-fits a.n a.neighbours1.now a.codes1.now c.requires.unrefused c.reduce-copy.ensures; accepted_record_2 = reduced-fits a.n a.neighbours2.now a.codes2.now c.requires.unrefused_2 c.reduce-copy2.ensures; choice_len = (c.requires.words1_len.4, c.requires.words1_len.5) }
+    let a = c.args in record { accepted_record = reduced-fits a.n a.neighbours1.now a.codes1.now c.requires.unrefused c.reduce_copy.ensures; accepted_record_2 = reduced-fits a.n a.neighbours2.now a.codes2.now c.requires.unrefused_2 c.reduce_copy-2.ensures; choice_len = (c.requires.words1_len.4, c.requires.words1_len.5) }
 
 pub returns : goal.returns
 returns c =
     let a = c.args in
     c.compare_reduced.ensures _ _
-    (lent-reduced a.n a.neighbours1.now a.codes1.now c.requires.unrefused c.reduce-copy.ensures)
-    (lent-reduced a.n a.neighbours2.now a.codes2.now c.requires.unrefused_2 c.reduce-copy2.ensures)
+    (lent-reduced a.n a.neighbours1.now a.codes1.now c.requires.unrefused c.reduce_copy.ensures)
+    (lent-reduced a.n a.neighbours2.now a.codes2.now c.requires.unrefused_2 c.reduce_copy-2.ensures)

@@ -30,24 +30,24 @@ asked S = complement_of S.args.a
 
 -- the number of its lines
 number : (E : AfterInPlaceRefusalEarly)
-    → E.in_place_refusal-early.result ≡ first_fitting (used_lines_of (lent E.before.before.before.before.before.before)
-    (asked E.before.before.before.before.before.before))
+    → E.in_place_refusal-early.result ≡ first_fitting (used_lines_of (lent E.before.before.before.before)
+    (asked E.before.before.before.before))
 number E =
-    let S = E.before.before.before.before.before in
+    let S = E.before.before.before.before in
     named-as (lent S) false (leb S.args.n S.args.a) E.in_place_refusal-early.ensures
-    E.bit_at.ensures
+    E.bit_at-sixteen.ensures
 
 pub returns-then-early-ne0 : goal.returns-then-early-ne0
 returns-then-early-ne0 c = refused _ (number c.before) c.if-early-ne0.true (refl, (refl, tt))
 
 pub complement_record-requires : goal.complement_record-requires
 complement_record-requires c =
-    let S = c.before.before.before.before.before.before.before.before in
+    let S = c.before.before.before.before.before.before.before in
     complement-ready (lent S).held S.args.a
     (as_before (lent S) (asked S) (number c.before.before.before) c.if-early-ne0.false)
 
 pub returns : goal.returns
-returns c =
-    let S = c.before.before.before.before.before.before.before.before.before.before.before.before.before.before in
+returns-then-early-ne0 c =
+    let S = c.before.before.before.before.before.before.before.before.before.before.before.before.before in
     in-place-done (lent S) (asked S) (number c.before.before.before.before.before.before.before.before.before) c.if-early-ne0.false
     c.complement_record.ensures.neighbours c.complement_record.ensures.numbers

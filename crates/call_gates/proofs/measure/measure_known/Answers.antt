@@ -31,10 +31,10 @@ abbrev asked : Start → Operation
 asked S = measurement_of S.args.pauli S.args.qubit S.args.outcome
 
 -- accepted, no line held without the used word
-before : (D : ElseEarlyNe0) → let S = D.before.before.before.before.before.before.before in
+before : (D : ElseEarlyNe0) → let S = D.before.before.before.before.before in
     first_fitting (lines_of (lent S).held (asked S)) ≡ 0
 before D =
-    let S = D.before.before.before.before.before.before in
+    let S = D.before.before.before.before.before in
     as_before (lent S) (asked S) D.measure_refusal-early.ensures D.if-early-ne0.false
 
 pub returns-then-early-ne0 : goal.returns-then-early-ne0
@@ -43,14 +43,14 @@ returns-then-early-ne0 c = refused _ c.measure_refusal-early.ensures c.if-early-
 pub measure_record-measured-requires : goal.measure_record-measured-requires
 measure_record-measured-requires c =
     let D = c.before.before.before in
-    let S = D.before.before.before.before.before.before.before in
+    let S = D.before.before.before.before.before in
     let a = S.args in let whole = measure-ready (lent S).held a.pauli a.qubit a.outcome
     (measure-passes (lent S).held a.pauli a.qubit a.outcome (before D)).0 in record { unrefused = whole.0; le_pauli = whole.1 }
 
 pub single-requires : goal.single-requires
 single-requires c =
     let D = c.before.before.before.before.before.before.before.before.before.before in
-    let S = D.before.before.before.before.before.before.before in
+    let S = D.before.before.before.before.before in
     let a = S.args in
     omega (
       arith,
@@ -59,8 +59,8 @@ single-requires c =
     )
 
 pub returns : goal.returns
-returns c =
-    let S = c.before.before.before.before.before.before.before.before.before.before.before.before.before.before.before.before.before in
+returns-then-early-ne0 c =
+    let S = c.before.before.before.before.before.before.before.before.before.before.before.before.before.before.before.before in
     let a = S.args in
     measure-done (lent S) a.pauli a.qubit a.outcome a.answer.now a.determined.now
     c.measure_refusal-early.ensures c.if-early-ne0.false _ _ _ c.measure_record-measured.ensures _ _ _

@@ -6,13 +6,13 @@ use Rattle.call_lists.proofs.strings.read_strings.Goals as goal
 pub returns-then-early-ne0 : goal.returns-then-early-ne0
 returns-then-early-ne0 c =
     let a = c.args in
-    read-refused c.args.text.now c.args.signs.now c.args.z.now c.args.x.now _ c.letter-count.ensures
+    read-refused a.text.now a.signs.now a.z.now a.x.now _ c.letter_count-n.ensures
     c.formed_refusal-early.ensures c.if-early-ne0.true
 
 pub read_rows-list-requires : goal.read_rows-list-requires
 read_rows-list-requires c =
     let a = c.args in
-    let F = read-formed c.args.text.now c.args.signs.now c.args.z.now c.args.x.now _ c.letter-count.ensures
+    let F = read-formed a.text.now a.signs.now a.z.now a.x.now _ c.letter_count-n.ensures
     c.formed_refusal-early.ensures c.if-early-ne0.false in
     (F.few, F.size, F.fit)
 
@@ -37,7 +37,7 @@ slice_bounds-check-end-3 c = part_of _ _ _ c.read_rows-list.ensures.x_value
 pub returns-then-number-ne0 : goal.returns-then-number-ne0
 returns-then-number-ne0 c =
     let a = c.args in
-    read-judged c.args.text.now c.args.signs.now c.args.z.now c.args.x.now _ c.letter-count.ensures
+    read-judged a.text.now a.signs.now a.z.now a.x.now _ c.letter_count-n.ensures
     c.formed_refusal-early.ensures c.if-early-ne0.false _ _ _ c.read_rows-list.ensures.signs_value
     c.read_rows-list.ensures.z_value c.read_rows-list.ensures.x_value
     c.check-number.ensures c.if-number-ne0.true
@@ -45,28 +45,28 @@ returns-then-number-ne0 c =
 pub copy_bytes-requires : goal.copy_bytes-requires
 copy_bytes-requires c =
     let a = c.args in
-    let F = read-formed c.args.text.now c.args.signs.now c.args.z.now c.args.x.now _ c.letter-count.ensures
+    let F = read-formed a.text.now a.signs.now a.z.now a.x.now _ c.letter_count-n.ensures
     c.formed_refusal-early.ensures c.if-early-ne0.false in
     omega (arith, F.few, F.signs-fit)
 
 pub copy_words-requires : goal.copy_words-requires
 copy_words-requires c =
     let a = c.args in
-    let F = read-formed c.args.text.now c.args.signs.now c.args.z.now c.args.x.now _ c.letter-count.ensures
+    let F = read-formed a.text.now a.signs.now a.z.now a.x.now _ c.letter_count-n.ensures
     c.formed_refusal-early.ensures c.if-early-ne0.false in
     omega (arith, F.few, F.z-fit)
 
 pub copy_words-requires-2 : goal.copy_words-requires-2
 copy_words-requires-2 c =
     let a = c.args in
-    let F = read-formed c.args.text.now c.args.signs.now c.args.z.now c.args.x.now _ c.letter-count.ensures
+    let F = read-formed a.text.now a.signs.now a.z.now a.x.now _ c.letter_count-n.ensures
     c.formed_refusal-early.ensures c.if-early-ne0.false in
     omega (arith, F.few, F.x-fit)
 
 pub returns : goal.returns
-returns c =
+returns-then-early-ne0 c =
     let a = c.args in
-    read_done c.args.text.now c.args.signs.now c.args.z.now c.args.x.now _ c.letter-count.ensures
+    read_done a.text.now a.signs.now a.z.now a.x.now _ c.letter_count-n.ensures
     c.formed_refusal-early.ensures c.if-early-ne0.false _ _ _ c.read_rows-list.ensures.signs_value
     c.read_rows-list.ensures.z_value c.read_rows-list.ensures.x_value
     c.check-number.ensures c.if-number-ne0.false c.copy_bytes.ensures c.copy_words.ensures

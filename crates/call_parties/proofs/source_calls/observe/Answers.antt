@@ -26,20 +26,20 @@ abbrev lent : Start → UsedRecord
 lent S = used_record S.args.n S.args.neighbours.now S.args.codes.now S.args.used.now
 
 -- the number of the lines before 8
-number : (E : AfterPartyRefusalEarly) → let S = E.before.before.before.before.before.before.before in
+number : (E : AfterPartyRefusalEarly) → let S = E.before.before.before.before.before in
     E.party_refusal-early.result ≡ first_fitting (before_eight S.args.word S.args.party (lent S)
     (observed_six S.args.pauli S.args.bit) (outsider (in_party S.args.word S.args.party) S.args.n
     S.args.qubit))
 number E =
-    let S = E.before.before.before.before.before.before in
+    let S = E.before.before.before.before.before in
     other-as S.args.word S.args.party (lent S) (observed_six S.args.pauli S.args.bit)
-    E.party_refusal-early.ensures E.outside.ensures
+    E.party_refusal-early.ensures E.outside-other.ensures
 
 pub returns-then-early-ne0 : goal.returns-then-early-ne0
 returns-then-early-ne0 c =
     let E = c.before in
     
-    let S = E.before.before.before.before.before.before in
+    let S = E.before.before.before.before.before in
     let a = S.args in
     refused _ (observe-early a.word a.party (lent S) a.pauli a.qubit a.bit (number E) c.if-early-ne0.true)
     c.if-early-ne0.true (refl, (refl, (refl, (refl, (refl, tt)))))
@@ -48,5 +48,5 @@ pub observe_within-requires : goal.observe_within-requires
 observe_within-requires c =
     let E = c.before.before.before.before.before.before.before.before.before in
     
-    let S = E.before.before.before.before.before.before in
+    let S = E.before.before.before.before.before in
     let a = S.args in record { admitted = observe-admitted a.word a.party (lent S) a.pauli a.qubit a.bit (number E) c.if-early-ne0.false; words_len = (refl {a = 64}, refl {a = 64}) }

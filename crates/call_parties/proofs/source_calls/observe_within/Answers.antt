@@ -22,18 +22,18 @@ abbrev asked : Start → Operation
 asked S = measurement_of S.args.pauli S.args.qubit S.args.bit
 
 pub take_party-own_used-requires : goal.take_party-own_used-requires
-take_party-own_used-requires c = let S = c.before.before.before.before.before.before.before.before.before.before in record { neighbours_len = lent-64 S.args.word S.args.party (lent S) (asked S) S.requires.admitted; words_len = S.requires.words_len }
+take_party-own_used-requires c = let S = c.before.before.before.before.before.before.before.before in record { neighbours_len = lent-64 S.args.word S.args.party (lent S) (asked S) S.requires.admitted; words_len = S.requires.words_len }
 
 pub observe_known-number-requires : goal.observe_known-number-requires
 observe_known-number-requires c =
-    let S = c.before.before.before.before.before.before.before.before.before.before.before.before.before.before.before.before.before.before.before in
+    let S = c.before.before.before.before.before.before.before.before.before.before.before.before.before.before.before.before.before.before in
     let a = S.args in
     copy-unrefused a.word a.party (lent S) (asked S) S.requires.admitted
     (copied-whole a.word a.party (lent S) (asked S) S.requires.admitted _ _ _ c.take_party-own_used.ensures)
 
 pub returns-then-number-ne0 : goal.returns-then-number-ne0
 returns-then-number-ne0 c =
-    let S = c.before.before.before.before.before.before.before.before.before.before.before.before.before.before.before.before.before.before.before.before.before.before.before.before.before in
+    let S = c.before.before.before.before.before.before.before.before.before.before.before.before.before.before.before.before.before.before.before.before.before.before.before.before in
     let a = S.args in
     observe-refused a.word a.party (lent S) a.pauli a.qubit a.bit S.requires.admitted
     (copied-whole a.word a.party (lent S) (asked S) S.requires.admitted _ _ _ c.take_party-own_used.ensures)
@@ -41,18 +41,18 @@ returns-then-number-ne0 c =
 
 pub put_party-requires : goal.put_party-requires
 put_party-requires c =
-    let S = c.before.before.before.before.before.before.before.before.before.before.before.before.before.before.before.before.before.before.before.before.before.before.before.before.before.before.before in
+    let S = c.before.before.before.before.before.before.before.before.before.before.before.before.before.before.before.before.before.before.before.before.before.before.before.before.before.before in
     let L = lent-64 S.args.word S.args.party (lent S) (asked S) S.requires.admitted in record { words_len = (
-        c.words2.given
-            ∙ c.words.given ∙ S.requires.words_len.0,
-        c.bytes2.given ∙ c.bytes.given
+        c.words-2-1.given
+            ∙ c.words-1.given ∙ S.requires.words_len.0,
+        c.bytes-2-1.given ∙ c.bytes-1.given
             ∙ S.requires.words_len.1,
       ); neighbours_len = L }
 
 pub returns : goal.returns
-returns c =
-    let S = c.before.before.before.before.before.before.before.before.before.before.before.before.before.before.before.before.before.before.before.before.before.before.before.before.before.before.before.before.before.before.before.before.before in
+returns-then-number-ne0 c =
+    let S = c.before.before.before.before.before.before.before.before.before.before.before.before.before.before.before.before.before.before.before.before.before.before.before.before.before.before.before.before.before.before.before.before in
     let a = S.args in
     observe-done a.word a.party (lent S) a.pauli a.qubit a.bit S.requires.admitted
-    (copied-whole a.word a.party (lent S) (asked S) S.requires.admitted _ _ _ c.take-party.ensures)
-    c.observe-known.ensures c.if1.false c.put_party.ensures c.put_used.ensures
+    (copied-whole a.word a.party (lent S) (asked S) S.requires.admitted _ _ _ c.take_party-own_used.ensures)
+    c.observe_known-number.ensures c.if-number-ne0.false c.put_party.ensures c.put_used.ensures

@@ -38,9 +38,9 @@ number E =
     let a = S.args in
     other-as a.word a.party (lent S) (not (used_code a.code))
     (E.party_refusal-early.ensures
-    ∙ ap (λ s. first_fitting (before_eight a.word a.party (lent S) s E.outside.result))
-    E.no-photon.ensures)
-    E.outside.ensures
+    ∙ ap (λ s. first_fitting (before_eight a.word a.party (lent S) s E.outside-other.result))
+    E.no_photon-six.ensures)
+    E.outside-other.ensures
 
 pub returns-then-early-ne0 : goal.returns-then-early-ne0
 returns-then-early-ne0 c =
@@ -60,7 +60,7 @@ renew_known-requires c =
     }
 
 pub returns : goal.returns
-returns c =
+returns-then-early-ne0 c =
     let S = at c.before.before.before.before.before.before.before.before.before.before in
     let a = S.args in
     renew-whole a.word a.party (lent S) a.qubit a.code (number c.before.before.before.before.before.before.before.before.before.before) c.if-early-ne0.false

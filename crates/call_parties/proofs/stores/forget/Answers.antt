@@ -21,33 +21,33 @@ store S = record { heads = S.args.heads.now; neighbours = S.args.held_neighbours
 
 pub returns-then-early-ne0 : goal.returns-then-early-ne0
 returns-then-early-ne0 c =
-    let S = c.before.before.before.before.before.before.before.before.before in
+    let S = c.before.before.before.before.before.before.before.before in
     forget-refused S.args.word S.args.party (lent S) S.args.name (store S) _
     c.shared_refusal-early.ensures c.if-early-ne0.true
 
 pub own_find-place-requires : goal.own_find-place-requires
 own_find-place-requires c =
-    let S = c.before.before.before.before.before.before.before.before.before in
+    let S = c.before.before.before.before.before.before.before.before in
     search-fits S.args.word S.args.party (lent S) S.args.name (store S) _
-    c.shared-refusal.ensures c.if1.false
+    c.shared_refusal-early.ensures c.if-early-ne0.false
 
 pub returns-then-place-ge4 : goal.returns-then-place-ge4
 returns-then-place-ge4 c =
-    let S = c.before.before.before.before.before.before.before.before.before.before.before in
+    let S = c.before.before.before.before.before.before.before.before.before.before in
     forget-not-held S.args.word S.args.party (lent S) S.args.name (store S) _
-    c.shared-refusal.ensures c.if1.false _ c.own_find-place.ensures
+    c.shared_refusal-early.ensures c.if-early-ne0.false _ c.own_find-place.ensures
     c.if-place-ge4.true
 
 pub bounds-heads-party : goal.bounds-heads-party
 bounds-heads-party c =
-    let S = c.before.before.before.before.before.before.before.before.before.before.before in
+    let S = c.before.before.before.before.before.before.before.before.before.before in
     head-inside S.args.word S.args.party (lent S) S.args.name (store S) _
-    c.shared-refusal.ensures c.if1.false _ c.own_find-place.ensures
+    c.shared_refusal-early.ensures c.if-early-ne0.false _ c.own_find-place.ensures
     c.if-place-ge4.false
 
 pub returns : goal.returns
-returns c =
-    let S = c.before.before.before.before.before.before.before.before.before.before.before in
+returns-then-early-ne0 c =
+    let S = c.before.before.before.before.before.before.before.before.before.before in
     forget-done S.args.word S.args.party (lent S) S.args.name (store S) _
-    c.shared-refusal.ensures c.if1.false _ c.own_find-place.ensures
+    c.shared_refusal-early.ensures c.if-early-ne0.false _ c.own_find-place.ensures
     c.if-place-ge4.false

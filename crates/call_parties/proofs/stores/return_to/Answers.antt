@@ -21,31 +21,31 @@ store S = record { heads = S.args.heads.now; neighbours = S.args.held_neighbours
 
 pub returns-then-early-ne0 : goal.returns-then-early-ne0
 returns-then-early-ne0 c =
-    let S = c.before.before.before.before.before.before.before.before.before.before in
+    let S = c.before.before.before.before.before.before.before.before.before in
     return_refused S.args.word S.args.party (lent S) S.args.name (store S) _
     c.shared_refusal-early.ensures c.if-early-ne0.true
 
 pub own_find-place-requires : goal.own_find-place-requires
 own_find-place-requires c =
-    let S = c.before.before.before.before.before.before.before.before.before.before in
+    let S = c.before.before.before.before.before.before.before.before.before in
     search-fits S.args.word S.args.party (lent S) S.args.name (store S) _
     c.shared_refusal-early.ensures c.if-early-ne0.false
 
 pub returns-then-place-ge4 : goal.returns-then-place-ge4
 returns-then-place-ge4 c =
-    let S = c.before.before.before.before.before.before.before.before.before.before.before.before in
+    let S = c.before.before.before.before.before.before.before.before.before.before.before in
     return-not-held S.args.word S.args.party (lent S) S.args.name (store S) _
     c.shared_refusal-early.ensures c.if-early-ne0.false _ c.own_find-place.ensures
     c.if-place-ge4.true
 
 pub take_merged-requires : goal.take_merged-requires
 take_merged-requires c =
-    let S = c.before.before.before.before.before.before.before.before.before.before.before.before.before.before.before in let whole = all_fit S.args.word S.args.party (lent S) S.args.name (store S) _
+    let S = c.before.before.before.before.before.before.before.before.before.before.before.before.before.before in let whole = all_fit S.args.word S.args.party (lent S) S.args.name (store S) _
     c.shared_refusal-early.ensures c.if-early-ne0.false _ c.if-place-ge4.false in record { i_bound = whole.0; neighbours_len = whole.1 }
 
 pub returns : goal.returns
-returns c =
-    let S = c.before.before.before.before.before.before.before.before.before.before.before.before.before.before.before.before.before.before.before.before.before.before in
+returns-then-early-ne0 c =
+    let S = c.before.before.before.before.before.before.before.before.before.before.before.before.before.before.before.before.before.before.before.before.before in
     return-done S.args.word S.args.party (lent S) S.args.name (store S) _
     c.shared_refusal-early.ensures c.if-early-ne0.false _ c.own_find-place.ensures
     c.if-place-ge4.false _ c.own_word-own.ensures _ c.word_at.ensures _ _ _ c.take_merged.ensures

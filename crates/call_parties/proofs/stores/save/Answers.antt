@@ -21,32 +21,32 @@ store S = record { heads = S.args.heads.now; neighbours = S.args.held_neighbours
 
 pub returns-then-early-ne0 : goal.returns-then-early-ne0
 returns-then-early-ne0 c =
-    let S = c.before.before.before.before.before.before.before.before.before in
+    let S = c.before.before.before.before.before.before.before.before in
     save-refused S.args.word S.args.party (lent S) S.args.name (store S) _
     c.shared_refusal-early.ensures c.if-early-ne0.true
 
 pub own_place_for-place-requires : goal.own_place_for-place-requires
 own_place_for-place-requires c =
-    let S = c.before.before.before.before.before.before.before.before.before in
+    let S = c.before.before.before.before.before.before.before.before in
     search-fits S.args.word S.args.party (lent S) S.args.name (store S) _
-    c.shared-refusal.ensures c.if1.false
+    c.shared_refusal-early.ensures c.if-early-ne0.false
 
 pub returns-then-place-ge4 : goal.returns-then-place-ge4
 returns-then-place-ge4 c =
-    let S = c.before.before.before.before.before.before.before.before.before.before.before in
+    let S = c.before.before.before.before.before.before.before.before.before.before in
     save-full S.args.word S.args.party (lent S) S.args.name (store S) _
-    c.shared-refusal.ensures c.if1.false _ c.own_place_for-place.ensures
+    c.shared_refusal-early.ensures c.if-early-ne0.false _ c.own_place_for-place.ensures
     c.if-place-ge4.true
 
 pub put_masked-requires : goal.put_masked-requires
 put_masked-requires c =
-    let S = c.before.before.before.before.before.before.before.before.before.before.before.before.before.before.before in let whole = put-fits S.args.word S.args.party (lent S) S.args.name (store S) _
-    c.shared-refusal.ensures c.if1.false _ c.own_place_for-place.ensures
+    let S = c.before.before.before.before.before.before.before.before.before.before.before.before.before.before in let whole = put-fits S.args.word S.args.party (lent S) S.args.name (store S) _
+    c.shared_refusal-early.ensures c.if-early-ne0.false _ c.own_place_for-place.ensures
     c.if-place-ge4.false in record { i_bound = whole.0; heads_len = whole.1 }
 
 pub returns : goal.returns
-returns c =
-    let S = c.before.before.before.before.before.before.before.before.before.before.before.before.before.before.before.before.before.before.before.before.before.before in
+returns-then-early-ne0 c =
+    let S = c.before.before.before.before.before.before.before.before.before.before.before.before.before.before.before.before.before.before.before.before.before in
     save-done S.args.word S.args.party (lent S) S.args.name (store S) _
-    c.shared-refusal.ensures c.if1.false _ c.own_place_for-place.ensures
+    c.shared_refusal-early.ensures c.if-early-ne0.false _ c.own_place_for-place.ensures
     c.if-place-ge4.false _ c.own_word.ensures _ c.put_masked.ensures

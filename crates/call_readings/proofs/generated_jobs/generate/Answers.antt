@@ -11,11 +11,11 @@ returns-then-number-ne0 c = refused _ c.generate_refusal-number.ensures c.if-num
 pub put_job-requires : goal.put_job-requires
 put_job-requires c =
     let a = c.args in
-    accepted-job c.args.n c.args.count c.args.seed c.args.text.now
+    accepted-job a.n a.count a.seed a.text.now
     (sym c.generate_refusal-number.ensures ∙ c.if-number-ne0.false)
 
 pub returns : goal.returns
-returns c =
+returns-then-number-ne0 c =
     let a = c.args in
-    generate-accepted c.args.n c.args.count c.args.seed c.args.text.now c.generate_refusal-number.ensures
+    generate-accepted a.n a.count a.seed a.text.now c.generate_refusal-number.ensures
     c.if-number-ne0.false _ _ c.put_job.ensures

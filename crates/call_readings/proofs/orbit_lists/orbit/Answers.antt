@@ -17,25 +17,25 @@ returns-then-number-ne0 c = refused _ c.orbit_refusal-number.ensures c.if-number
 pub graph_number-start-requires : goal.graph_number-start-requires
 graph_number-start-requires c =
     let a = c.args in
-    let A = accepted-graph c.args.n c.args.neighbours.now c.args.list.now (sym c.orbit_refusal-number.ensures ∙ c.if-number-ne0.false)
+    let A = accepted-graph a.n a.neighbours.now a.list.now (sym c.orbit_refusal-number.ensures ∙ c.if-number-ne0.false)
     in
     (A.positive, A.few, A.words)
 
 pub write_orbit-requires : goal.write_orbit-requires
 write_orbit-requires c =
     let a = c.args in
-    let A = accepted-graph c.args.n c.args.neighbours.now c.args.list.now
+    let A = accepted-graph a.n a.neighbours.now a.list.now
     (sym c.orbit_refusal-number.ensures ∙ c.if-number-ne0.false) in (
       A.positive,
       A.few,
-      subst (λ g. g < graph_count c.args.n) (sym c.graph_number-start.ensures) (number_lt c.args.n _),
+      subst (λ g. g < graph_count a.n) (sym c.graph_number-start.ensures) (number_lt a.n _),
       A.places,
     )
 
 pub returns : goal.returns
-returns c =
+returns-then-number-ne0 c =
     let a = c.args in
     done _ c.orbit_refusal-number.ensures c.if-number-ne0.false (
-      c.write_orbit.ensures.0 ∙ ap (λ g. written (orbit_list c.args.n g) c.args.list.now) c.graph_number-start.ensures,
-      (c.write_orbit.ensures.1 ∙ ap (λ g. length (orbit_list c.args.n g)) c.graph_number-start.ensures, tt),
+      c.write_orbit.ensures.0 ∙ ap (λ g. written (orbit_list a.n g) a.list.now) c.graph_number-start.ensures,
+      (c.write_orbit.ensures.1 ∙ ap (λ g. length (orbit_list a.n g)) c.graph_number-start.ensures, tt),
     )

@@ -65,13 +65,13 @@ induced_image-answer-requires c =
     let a = c.args in
     let small = (large-tests a.limited a.n a.neighbours.now a.neighbours2.now _ _
     c.requires.accepted_record.neighbours-length
-    c.requires.accepted_record_2.neighbours-length c.too_large.ensures c.if1.false) in
-    let x = c.compare-parts.result.choice in
-    let e = choice-written a.n x a.choice.now _ c.requires.choice_len.0 c.copy-bytes.ensures in record { accepted_record = c.requires.accepted_record; choice_len = (choice-long a.n x _ e, c.requires.accepted_record_2.codes-length, part-long _ _ c.requires.accepted_record.upto refl); codes = (
+    c.requires.accepted_record_2.neighbours-length c.too_large.ensures c.if-too_large.false) in
+    let x = c.compare_parts-least.result.choice in
+    let e = choice-written a.n x a.choice.now _ c.requires.choice_len.0 c.copy_bytes.ensures in record { accepted_record = c.requires.accepted_record; choice_len = (choice-long a.n x _ e, c.requires.accepted_record_2.codes-length, part-long _ _ c.requires.accepted_record.upto refl); codes = (
           chosen-codes a.limited a.n a.neighbours.now a.codes.now a.neighbours2.now a.codes2.now
               c.requires.accepted_record c.requires.accepted_record_2 small
-              c.compare-parts.result.found c.compare-parts.result.choice c.compare-parts.ensures
-              (not-false _ c.if2.false) _ e,
+              c.compare_parts-least.result.found c.compare_parts-least.result.choice c.compare_parts-least.ensures
+              (not-false _ c.if-not-least.false) _ e,
           c.requires.accepted_record_2.codes-below,
         ) }
 
@@ -85,15 +85,15 @@ copy_list-requires c =
 -- src/lib.rt:70:1
 -- src/lib.rt:70:1
 pub returns : goal.returns
-returns c =
+returns-then-too_large c =
     let a = c.args in
     let small = (large-tests a.limited a.n a.neighbours.now a.neighbours2.now _ _
     c.requires.accepted_record.neighbours-length
-    c.requires.accepted_record_2.neighbours-length c.too_large.ensures c.if1.false) in
-    let x = c.compare-parts.result.choice in
-    let e = choice-written a.n x a.choice.now _ c.requires.choice_len.0 c.copy-bytes.ensures in
+    c.requires.accepted_record_2.neighbours-length c.too_large.ensures c.if-too_large.false) in
+    let x = c.compare_parts-least.result.choice in
+    let e = choice-written a.n x a.choice.now _ c.requires.choice_len.0 c.copy_bytes.ensures in
     λ R R₂ H H₂. pair-accepted a.limited a.n a.neighbours.now a.codes.now a.neighbours2.now
     a.codes2.now c.requires.accepted_record c.requires.accepted_record_2 small
-    c.compare-parts.result.found c.compare-parts.result.choice c.compare-parts.ensures R R₂ H H₂
-    (not-false _ c.if2.false) _ e _ c.induced_image-answer.ensures a.choice.now a.list.now _ a.count.now _
+    c.compare_parts-least.result.found c.compare_parts-least.result.choice c.compare_parts-least.ensures R R₂ H H₂
+    (not-false _ c.if-not-least.false) _ e _ c.induced_image-answer.ensures a.choice.now a.list.now _ a.count.now _
     c.copy_list.ensures refl

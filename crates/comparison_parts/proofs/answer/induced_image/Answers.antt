@@ -12,10 +12,10 @@ pub image_answer-requires : goal.image_answer-requires
 image_answer-requires c =
     let a = c.args in
     made-accepted a.n a.neighbours.now a.codes.now a.choice.now a.codes2.now c.requires.accepted_record
-    a.induced.now _ c.requires.choice_len.2 c.induced-codes.ensures
+    a.induced.now _ c.requires.choice_len.2 c.induced_codes.ensures
 
 pub returns : goal.returns
 returns c =
     let a = c.args in
     made-answer a.n a.neighbours.now a.codes.now a.choice.now a.codes2.now c.requires.accepted_record
-    a.induced.now _ c.requires.choice_len.2 c.induced-codes.ensures _ c.image_answer.ensures
+    a.induced.now _ c.requires.choice_len.2 c.induced_codes.ensures _ c.image_answer.ensures

@@ -33,9 +33,9 @@ search_records-requires c =
     let a = c.args in
     let G = c.requires.numbered_pair in
     let k = length a.words.now in
-    let ew = c.extract2.ensures.0 ∙ ap (λ m. part_words m a.at a.neighbours2.now) c.requires.numbers_len.1 in
-    let en = c.extract2.ensures.1 ∙ ap (λ m. part_codes m a.at a.codes2.now) c.requires.numbers_len.1 in record { n_bound = (
-        c.requires.numbered_pair.few,
+    let ew = c.extract-2.ensures.0 ∙ ap (λ m. part_words m a.at a.neighbours2.now) c.requires.numbers_len.1 in
+    let en = c.extract-2.ensures.1 ∙ ap (λ m. part_codes m a.at a.codes2.now) c.requires.numbers_len.1 in record { n_bound = (
+        G.few,
         first-sound a.n a.neighbours.now a.codes.now a.neighbours2.now a.codes2.now
             a.component k a.at G _ _ _ _ c.extract.ensures.0 c.extract.ensures.1 ew en,
       ); sound_record = (
@@ -55,7 +55,7 @@ returns c =
     let a = c.args in
     let G = c.requires.numbered_pair in
     let k = length a.words.now in
-    let ew = c.extract2.ensures.0 ∙ ap (λ m. part_words m a.at a.neighbours2.now) c.requires.numbers_len.1 in
-    let en = c.extract2.ensures.1 ∙ ap (λ m. part_codes m a.at a.codes2.now) c.requires.numbers_len.1 in record { part_answer = part-answered a.n a.neighbours.now a.codes.now a.neighbours2.now a.codes2.now a.component k
+    let ew = c.extract-2.ensures.0 ∙ ap (λ m. part_words m a.at a.neighbours2.now) c.requires.numbers_len.1 in
+    let en = c.extract-2.ensures.1 ∙ ap (λ m. part_codes m a.at a.codes2.now) c.requires.numbers_len.1 in record { part_answer = part-answered a.n a.neighbours.now a.codes.now a.neighbours2.now a.codes2.now a.component k
           a.at G _ _ _ _ c.extract.ensures.0 c.extract.ensures.1 ew en
           _ _ c.search_records.ensures.least_answer; empty_from_2 = c.search_records.ensures.empty_from_2 }

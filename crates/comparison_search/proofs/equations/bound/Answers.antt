@@ -42,7 +42,7 @@ returns-then-has-3 c =
     )
 
 pub returns : goal.returns
-returns c =
+returns-then-s-eq0 c =
     let t = c.size-s in
     let e = equation_of c.args.e in (
       omega (arith, t.ensures.0),

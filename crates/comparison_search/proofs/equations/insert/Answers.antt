@@ -13,10 +13,9 @@ returns-then-n-lt8 c = c.store.ensures
 
 pub returns-then-i-eq0 : goal.returns-then-i-eq0
 returns-then-i-eq0 c =
-    let s = c.before.before.before.before.before.before.before.before.before.before.before in
-    nothing_left (equations_in s.args.table.now) (equation_of s.args.e)
+    nothing_left (equations_in c.args.table.now) (equation_of c.args.e)
     (equation_of c.add_rows-left.result)
-    s.requires.1
+    c.requires.1
     (λ w s. c.add_rows-left.ensures w s ∙ c.add_rows-c.ensures w s
     ∙ c.add_rows-b.ensures w s ∙
     c.add_rows-a.ensures w s)
@@ -32,9 +31,8 @@ clear-requires c =
     (c.store-2.ensures.triangular, omega (arith, i, more), omega (arith, c.requires.0))
 
 pub returns : goal.returns
-returns c =
-    let s = c.before.before.before.before.before.before.before.before.before.before.before.before.before.before.before in
-    stored-and-cleared (equations_in s.args.table.now) (equation_of s.args.e)
+returns-then-n-lt8 c =
+    stored-and-cleared (equations_in c.args.table.now) (equation_of c.args.e)
     (equation_of c.add_rows-left.result) _ _
     (λ w s. c.add_rows-left.ensures w s ∙
     c.add_rows-c.ensures w s

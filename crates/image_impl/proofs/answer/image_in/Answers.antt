@@ -20,35 +20,35 @@ copy_record-requires c = record { codes_len = unrefused-long _ _ c.requires.unre
 
 pub begin-requires : goal.begin-requires
 begin-requires c =
-    unrefused-codes _ _ (copied-unrefused c.copy-record.ensures c.requires.unrefused)
+    unrefused-codes _ _ (copied-unrefused c.copy_record.ensures c.requires.unrefused)
 
 pub run_rule-end-requires : goal.run_rule-end-requires
 run_rule-end-requires c =
     (
       c.begin.ensures.count_value,
-      c.begin.ensures.by_index _ _ (copied-unrefused c.copy-record.ensures c.requires.unrefused)
+      c.begin.ensures.by_index _ _ (copied-unrefused c.copy_record.ensures c.requires.unrefused)
           c.requires.words_len.2,
     )
 
 pub action_of-left-requires : goal.action_of-left-requires
 action_of-left-requires c =
     unrefused-codes _ _
-    c.run-rule.ensures.tracking.unrefused
+    c.run_rule-end.ensures.tracking.unrefused
 
 pub sign_bytes-requires : goal.sign_bytes-requires
 sign_bytes-requires c =
-    let U = c.run-rule.ensures.tracking.unrefused in
+    let U = c.run_rule-end.ensures.tracking.unrefused in
     (unrefused-short _ _ U, unrefused-long _ _ U)
 
 pub shape_of-words : goal.shape_of-words
 shape_of-words c =
-    c.run-rule.ensures.tracking.long ∙ ap length c.copy-record.ensures.0 ∙ sym c.requires.words_len.0
+    c.run_rule-end.ensures.tracking.long ∙ ap length c.copy_record.ensures.0 ∙ sym c.requires.words_len.0
 
 pub shape_of-bytes : goal.shape_of-bytes
 shape_of-bytes c =
     c.sign_bytes.auto.1.1.1.0 ∙ tracked-codes _ _
-    c.run-rule.ensures.tracking
-    ∙ ap length c.copy-record.ensures.0 ∙ sym c.requires.words_len.1
+    c.run_rule-end.ensures.tracking
+    ∙ ap length c.copy_record.ensures.0 ∙ sym c.requires.words_len.1
 
 -- words of 64 bits
 b-below : (c : AfterActionOfLeft) → c.action_of-left.result.b < 2 ^ 64
@@ -59,9 +59,9 @@ sz-below c = omega arith
 
 pub returns : goal.returns
 returns c =
-    let left = c.before.before.before.before.before.before.before.before in
-    copied-image c.copy-record.ensures
-    (answered _ _ _ (copied-unrefused c.copy-record.ensures c.requires.unrefused) c.begin.result
-    c.begin.ensures.0 _ c.run-rule.ensures left.action-of.result left.action-of.ensures
+    let left = c.before.before.before.before.before.before.before in
+    copied-image c.copy_record.ensures
+    (answered _ _ _ (copied-unrefused c.copy_record.ensures c.requires.unrefused) c.begin.result
+    c.begin.ensures.count_value _ c.run_rule-end.ensures left.action_of-left.result left.action_of-left.ensures
     (b-below left) (sz-below left) _ c.image_number.ensures refl
     c.sign_bytes.ensures refl refl)

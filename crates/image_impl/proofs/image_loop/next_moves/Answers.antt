@@ -21,30 +21,30 @@ first_joined-j-requires c = tracked-small _ _ c.requires.0
 
 pub returns-then-j-neighbours : goal.returns-then-j-neighbours
 returns-then-j-neighbours c =
-    none_done _ _ c.requires.0 c.requires.1 c.if1.false c.first_joined-j.result
+    none_done _ _ c.requires.0 c.requires.1 c.if-both-ne0.false c.first_joined-j.result
     c.first_joined-j.ensures c.if-j-neighbours.true
 
 pub offset_bounds-neighbours-j : goal.offset_bounds-neighbours-j
 offset_bounds-neighbours-j c =
     let small : c.first_joined-j.result < length c.args.neighbours.now =
-    pair-below _ _ c.requires.0 c.requires.1 c.if1.false c.first_joined-j.result
+    pair-below _ _ c.requires.0 c.requires.1 c.if-both-ne0.false c.first_joined-j.result
     c.first_joined-j.ensures c.if-j-neighbours.false in
     omega (arith, tracked-small _ _ c.requires.0)
 
 pub bounds-neighbours-j : goal.bounds-neighbours-j
 bounds-neighbours-j c =
     let small : c.first_joined-j.result < length c.args.neighbours.now =
-    pair-below _ _ c.requires.0 c.requires.1 c.if1.false c.first_joined-j.result
+    pair-below _ _ c.requires.0 c.requires.1 c.if-both-ne0.false c.first_joined-j.result
     c.first_joined-j.ensures c.if-j-neighbours.false in
     omega arith
 
 pub triple_at-requires : goal.triple_at-requires
 triple_at-requires c =
-    let whole = triple-ready _ _ c.requires.0 c.requires.1 c.if1.false c.first_joined-j.result
+    let whole = triple-ready _ _ c.requires.0 c.requires.1 c.if-both-ne0.false c.first_joined-j.result
     c.first_joined-j.ensures c.if-j-neighbours.false c.smallest-k.result c.smallest-k.ensures.0 in record { j_in_bounds = whole.0; k_value = whole.1 }
 
 pub returns : goal.returns
-returns c =
-    triple-done _ _ c.requires.0 c.requires.1 c.if1.false c.first_joined-j.result
+returns-then-both-ne0 c =
+    triple-done _ _ c.requires.0 c.requires.1 c.if-both-ne0.false c.first_joined-j.result
     c.first_joined-j.ensures c.if-j-neighbours.false c.smallest-k.result c.smallest-k.ensures.0 _
     c.triple_at.ensures

@@ -69,12 +69,7 @@ put-requires c =
 
 pub returns : goal.returns
 returns c =
-    let determined = c.before.before.before.before.before.before.before in
-    let outcome = determined.before.before.before.before in
-    let refusal = outcome.before.before.before.before in
-    
-    
-    let a = refusal.args in
+    let a = c.args in
     let r : Result =
     record { refusal = a.refusal; outcome = a.outcome; determined = a.determined } in
     let two = length-append (digits 4 a.k ++ space) (decimal a.refusal ++ space) in
@@ -82,8 +77,8 @@ returns c =
     let long-k = length-step a.k in
     let long-refusal = length-field a.refusal in
     same-print (line-parts a.k r)
-    (and_then (omega (arith, length_three a.k r, length-decimal a.determined, all, refusal.requires))
-    (and_then (omega (arith, length_three a.k r, refusal.requires))
-    (and_then (omega (arith, long-k, long-refusal, two, refusal.requires))
-    (and_then (omega (arith, long-k, refusal.requires)) refusal.put_long_field-after_k.ensures refusal.put_field-after_refusal.ensures)
-    outcome.put_field-after_outcome.ensures) determined.put_decimal-after_determined.ensures) c.put.ensures)
+    (and_then (omega (arith, length_three a.k r, length-decimal a.determined, all, c.requires))
+    (and_then (omega (arith, length_three a.k r, c.requires))
+    (and_then (omega (arith, long-k, long-refusal, two, c.requires))
+    (and_then (omega (arith, long-k, c.requires)) c.put_long_field-after_k.ensures c.put_field-after_refusal.ensures)
+    c.put_field-after_outcome.ensures) c.put_decimal-after_determined.ensures) c.put.ensures)

@@ -30,20 +30,20 @@ run-used-requires c =
 
 pub print_results-at-requires : goal.print_results-at-requires
 print_results-at-requires c =
-    let R = c.before.before.before.before.before.before.before.before.before in
+    let R = c.before.before.before.before.before.before.before.before in
     let F = (begun R).requires in
-    (F.few, omega (arith, F.kept, R.run.auto.1.1.1.1.1.0), omega (arith, F.room))
+    (F.few, omega (arith, F.kept, R.run-used.auto.1.1.1.1.1.0), omega (arith, F.room))
 
 pub print_record-requires : goal.print_record-requires
 print_record-requires c =
-    let R = c.before.before.before.before.before.before.before.before.before.before.before.before.before.before in
+    let R = c.before.before.before.before.before.before.before.before.before.before.before in
     let S = begun R in
-    record-printable S.args.n _ _ S.args.count _ (all S) _ _ S.requires _ _ _ _ R.run.ensures _ _
-    c.print-results.ensures
+    record-printable S.args.n _ _ S.args.count _ (all S) _ _ S.requires _ _ _ _ R.run-used.ensures _ _
+    c.print_results-at.ensures
 
 pub returns : goal.returns
 returns c =
-    let R = c.before.before.before.before.before.before.before.before.before.before.before.before.before.before.before.before.before.before in
+    let R = c.before.before.before.before.before.before.before.before.before.before.before.before.before.before.before in
     let S = begun R in
-    all-printed S.args.n _ _ S.args.count _ (all S) _ _ S.requires _ _ _ _ R.run.ensures _ _
-    c.print-results.ensures _ _ c.print_record.ensures
+    all-printed S.args.n _ _ S.args.count _ (all S) _ _ S.requires _ _ _ _ R.run-used.ensures _ _
+    c.print_results-at.ensures _ _ c.print_record.ensures

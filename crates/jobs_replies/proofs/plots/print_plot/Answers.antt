@@ -23,16 +23,16 @@ pub lowest-low-requires : goal.lowest-low-requires
 lowest-low-requires c =
     let a = c.args in
     let l : GeneratorList = record { n = a.n; signs = a.signs.now; z = a.z.now; x = a.x.now } in
-    let long = reduced-length l _ _ _ _ _ c.requires _ _ _ c.reduce.ensures c.if1.false in record { unrefused = reduced-unrefused l _ _ _ _ _ c.requires _ _ _ c.reduce.ensures c.if1.false; words_len = (omega (arith, long, c.requires.words_long), omega (arith, long, c.requires.bytes-long)) }
+    let long = reduced-length l _ _ _ _ _ c.requires _ _ _ c.reduce-number.ensures c.if-number-ne0.false in record { unrefused = reduced-unrefused l _ _ _ _ _ c.requires _ _ _ c.reduce-number.ensures c.if-number-ne0.false; words_len = (omega (arith, long, c.requires.words_long), omega (arith, long, c.requires.bytes-long)) }
 
 pub print_table-requires : goal.print_table-requires
 print_table-requires c =
     let a = c.args in
-    let l : GeneratorList = record { n = a.n; signs = a.signs.now; z = a.z.now; x = a.x.now } in record { plottable = reduced-plottable l _ _ _ _ _ c.requires _ _ _ c.reduce.ensures c.if1.false _ c.lowest.ensures; count_bound = table-room l _ _ _ _ _ c.requires _ c.single.ensures }
+    let l : GeneratorList = record { n = a.n; signs = a.signs.now; z = a.z.now; x = a.x.now } in record { plottable = reduced-plottable l _ _ _ _ _ c.requires _ _ _ c.reduce-number.ensures c.if-number-ne0.false _ c.lowest-low.ensures; count_bound = table-room l _ _ _ _ _ c.requires _ c.single.ensures }
 
 pub returns : goal.returns
-returns c =
+returns-then-number-ne0 c =
     let a = c.args in
     let l : GeneratorList = record { n = a.n; signs = a.signs.now; z = a.z.now; x = a.x.now } in
-    same-print (table-plotted l _ _ _ _ _ c.requires _ _ _ c.reduce.ensures c.if1.false _ c.single.ensures)
+    same-print (table-plotted l _ _ _ _ _ c.requires _ _ _ c.reduce-number.ensures c.if-number-ne0.false _ c.single.ensures)
     c.print_table.ensures

@@ -59,7 +59,6 @@ single-own-requires c =
 
 pub single-own-requires-else-code-ge12 : goal.single-own-requires-else-code-ge12
 single-own-requires-else-code-ge12 c =
-    let start = (c.requires.unrefused, c.requires.j_value) in
     omega (arith, c.requires.unrefused.1, unrefused-short _ _ c.requires.unrefused.0)
 
 pub returns-then-code-word : goal.returns-then-code-word
@@ -79,5 +78,5 @@ returns-then-code-ge12 c =
 
 pub returns-else-code-ge12 : goal.returns-else-code-ge12
 returns-else-code-ge12 c =
-    let start = (c.requires.unrefused, c.requires.j_value) in record { nearer = sign-nearer _ _ c.requires.unrefused.0 _ c.requires.unrefused.1 _ c.move_sign.ensures
-          (sign-less _ _ c.requires.unrefused.0 _ c.requires.unrefused.1 c.requires.j_value c.if1.false c.if2.false); elsewhere = sign-touches _ _ c.requires.unrefused.0 _ _ _ c.requires.unrefused.1 _ c.single-own-else-code-ge12.ensures c.move_sign.ensures }
+    record { nearer = sign-nearer _ _ c.requires.unrefused.0 _ c.requires.unrefused.1 _ c.move_sign.ensures
+          (sign-less _ _ c.requires.unrefused.0 _ c.requires.unrefused.1 c.requires.j_value c.if-code-word.false c.if-code-ge12.false); elsewhere = sign-touches _ _ c.requires.unrefused.0 _ _ _ c.requires.unrefused.1 _ c.single-own-else-code-ge12.ensures c.move_sign.ensures }

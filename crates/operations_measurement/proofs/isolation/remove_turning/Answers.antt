@@ -50,7 +50,7 @@ pub bounds-twos-code : goal.bounds-twos-code
 bounds-twos-code c = small c.before.before
 
 pub bounds-codes-i-in-loop-rest : goal.bounds-codes-i-in-loop-rest
-bounds-codes-i-in-loop-rest c = slice-read-code c
+bounds-codes-i-in-loop-rest c = bounds-codes-i c
 
 pub offset_bounds-neighbours-i : goal.offset_bounds-neighbours-i
 offset_bounds-neighbours-i c =

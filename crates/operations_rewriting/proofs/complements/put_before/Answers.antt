@@ -37,7 +37,7 @@ pub bounds-turned-code : goal.bounds-turned-code
 bounds-turned-code c = small c.before.before
 
 pub bounds-codes-i-in-loop-rest : goal.bounds-codes-i-in-loop-rest
-bounds-codes-i-in-loop-rest c = slice-read-code c
+bounds-codes-i-in-loop-rest c = bounds-codes-i c
 
 pub without_smallest-rest-requires : goal.without_smallest-rest-requires
 without_smallest-rest-requires c = c.loop-rest-test.true

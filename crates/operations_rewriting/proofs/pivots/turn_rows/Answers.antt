@@ -46,7 +46,7 @@ pub bounds-twos-code : goal.bounds-twos-code
 bounds-twos-code c = small c.before.before
 
 pub bounds-codes-i-in-loop-rest : goal.bounds-codes-i-in-loop-rest
-bounds-codes-i-in-loop-rest c = slice-read-code c
+bounds-codes-i-in-loop-rest c = bounds-codes-i c
 
 pub offset_bounds-neighbours-i : goal.offset_bounds-neighbours-i
 offset_bounds-neighbours-i c =
@@ -70,7 +70,7 @@ offset_bounds-neighbours-i-in-loop-rest c =
     )
 
 pub bounds-neighbours-i-in-loop-rest : goal.bounds-neighbours-i-in-loop-rest
-bounds-neighbours-i-in-loop-rest c = slice-read-neighbours c
+bounds-neighbours-i-in-loop-rest c = bounds-neighbours-i c
 
 pub without_smallest-rest-requires : goal.without_smallest-rest-requires
 without_smallest-rest-requires c = c.loop-rest-test.true

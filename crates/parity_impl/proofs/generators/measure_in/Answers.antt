@@ -32,7 +32,7 @@ held S = accepted-record (lent S) false false S.requires.unrefused.no_line
 
 pub expand_into-requires : goal.expand_into-requires
 expand_into-requires c =
-    let S = c.before.before.before.before.before.before.before.before.before.before in
+    let S = c.before.before.before.before.before.before.before.before in
     let A = held S in record { n_bound = (A.upto, refl, A.codes-length); by_index = (A.codes-below, A.words-below); signs_len = S.requires.signs_len }
 
 -- where the generators are expanded
@@ -47,12 +47,12 @@ by C = C.before.before.before.before
 
 pub first_against-g-requires : goal.first_against-g-requires
 first_against-g-requires c =
-    let E = c.before.before.before.before.before.before.before.before.before in
+    let E = c.before.before.before.before.before.before.before in
     let S = at E in
     let a = S.args in
-    let e = E.expand-into.ensures in
+    
     search-ready (lent S) (held S) a.z a.x S.requires.z_bound.0 S.requires.z_bound.1 S.requires.x_value a.bit _ _ _
-    e.0 e.1.0 e.1.1
+    E.expand_into.ensures.signs_after E.expand_into.ensures.z_after E.expand_into.ensures.x_after
 
 pub change-requires : goal.change-requires
 change-requires c =
@@ -64,7 +64,7 @@ change-requires c =
 
 pub reduce_list-requires : goal.reduce_list-requires
 reduce_list-requires c =
-    let C = c.before.before.before.before.before.before.before.before.before.before.before in
+    let C = c.before.before.before.before.before.before.before.before in
     let F = by C in
     let E = of F in
     let S = at E in
@@ -73,7 +73,7 @@ reduce_list-requires c =
 
 pub returns : goal.returns
 returns c =
-    let C = c.before.before.before.before.before.before.before.before.before.before.before.before.before.before.before.before.before in
+    let C = c.before.before.before.before.before.before.before.before.before.before.before.before.before.before in
     let F = by C in
     let E = of F in
     let S = at E in

@@ -43,22 +43,22 @@ put_columns-size-requires c =
 
 pub starts_with-fits-requires : goal.starts_with-fits-requires
 starts_with-fits-requires c =
-    let S = c.before.before.before.before.before.before.before.before.before.before.before.before.before in
+    let S = c.before.before.before.before.before.before.before.before.before.before.before.before in
     let long = length-append (numeral S.args.q) space in
     omega (
       arith,
       short S,
       long,
-      line-size S.args.q S.args.text.now c.print-number.ensures (omega (arith, short S, long, S.requires))
-          c.columns-at.ensures c.put-columns.ensures,
-      c.print-number.auto,
-      c.put-columns.auto,
+      line-size S.args.q S.args.text.now c.print_number-from.ensures (omega (arith, short S, long, S.requires))
+          c.columns_at-line.ensures c.put_columns-size.ensures,
+      c.print_number-from.auto,
+      c.put_columns-size.auto,
       S.requires,
     )
 
 pub returns : goal.returns
 returns c =
-    let S = c.before.before.before.before.before.before.before.before.before.before.before.before.before.before in
+    let S = c.before.before.before.before.before.before.before.before.before.before.before.before.before in
     let long = length-append (numeral S.args.q) space in
-    line-told S.args.q S.args.text.now c.print-number.ensures (omega (arith, short S, long, S.requires))
-    c.columns-at.ensures c.put-columns.ensures c.starts_with-fits.ensures.text_value c.starts_with-fits.ensures.fact
+    line-told S.args.q S.args.text.now c.print_number-from.ensures (omega (arith, short S, long, S.requires))
+    c.columns_at-line.ensures c.put_columns-size.ensures c.starts_with-fits.ensures.text_value c.starts_with-fits.ensures.fact
