@@ -99,7 +99,7 @@ compare_lists-requires c =
       ); neighbours1_len = (part-long _ _ few refl, part-long _ _ few refl, part-long _ _ few refl, part-long _ _ few refl) }
 
 pub returns : goal.returns
-returns-then-pair_count c =
+returns c =
     let a = c.args in
     let l : GeneratorList = record { n = a.n1; signs = a.signs1.now; z = a.z1.now; x = a.x1.now } in
     let m : GeneratorList = record { n = a.n2; signs = a.signs2.now; z = a.z2.now; x = a.x2.now } in

@@ -29,7 +29,7 @@ compare_reduced-requires c =
             c.reduce-first.ensures c.reduce-second.ensures c.earlier-early.ensures z; choice_len = (c.requires.le_n.2, c.requires.le_n.3) }
 
 pub returns : goal.returns
-returns-then-early-ne0 c =
+returns c =
     let a = c.args in
     compare-decided a.limited a.n a.signs1.now a.z1.now a.x1.now a.signs2.now a.z2.now
     a.x2.now

@@ -62,7 +62,7 @@ cz_record-requires c =
     (as_before (lent S) (asked S) (number c.before.before.before.before) c.if-early-ne0.false) in record { unrefused = ready.0; a_in_bounds = ready.1; suspected = marked-words _ _ _ ready.0 c.found-touched.ensures }
 
 pub returns : goal.returns
-returns-then-early-ne0 c =
+returns c =
     let S = c.before.before.before.before.before.before.before.before.before.before.before.before.before.before.before.before in
     in-place-done (lent S) (asked S) (number c.before.before.before.before.before.before.before.before.before.before) c.if-early-ne0.false
     c.cz_record.ensures.neighbours c.cz_record.ensures.numbers

@@ -7,5 +7,5 @@ pub returns-then-known : goal.returns-then-known
 returns-then-known c = record { over_value = sym (c.requires c.if-known.true); found = subst (λ b. Found b c.args.codes.now 0) (sym c.if-known.true) tt }
 
 pub returns : goal.returns
-returns-then-known c =
+returns c =
     let L = c.look in record { over_value = c.look.ensures.over_value; found = subst (λ b. Found b c.args.codes.now L.result.suspects) (sym c.if-known.false) c.look.ensures.marked }

@@ -60,7 +60,7 @@ gate_record-requires c =
     (as_before (lent S) (asked S) (number c.before.before.before.before) c.if-early-ne0.false) in record { unrefused = ready.0; q_in_bounds = ready.1; suspected = marked-words _ _ _ ready.0 c.found-touched.ensures }
 
 pub returns : goal.returns
-returns-then-early-ne0 c =
+returns c =
     let S = c.before.before.before.before.before.before.before.before.before.before.before.before.before.before.before in
     in-place-done (lent S) (asked S) (number c.before.before.before.before.before.before.before.before.before.before) c.if-early-ne0.false
     c.gate_record.ensures.neighbours c.gate_record.ensures.numbers

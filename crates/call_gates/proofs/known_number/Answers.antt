@@ -24,6 +24,6 @@ returns-then-known c =
     c.six_number.ensures ∙ six-alone (lent S) (known-true (lent S) S.requires.known c.if-known.true) S.args.six
 
 pub returns : goal.returns
-returns-then-known c =
+returns c =
     let S = c.before.before.before.before.before in
     no-further (lent S) false S.args.six c.used_number.ensures

@@ -20,6 +20,6 @@ returns-then-number-ne0 c =
     unused-refused (lent S) _ _ _ c.reduce-number.ensures c.if-number-ne0.true
 
 pub returns : goal.returns
-returns-then-number-ne0 c =
+returns c =
     let S = c.before.before.before.before.before.before.before.before.before.before.before.before.before.before in
     unused-done (lent S) _ _ S.args.used.now c.reduce-number.ensures c.if-number-ne0.false

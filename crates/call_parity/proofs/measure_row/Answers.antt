@@ -65,7 +65,7 @@ measure_row_record-measured-requires c =
     let long = F.held.neighbours-length in record { unrefused = accepted-unrefused a.n a.neighbours.now a.codes.now F.held; z_bound = (subst (λ m. a.z < 2 ^ m) (sym long) F.z-below, subst (λ m. a.x < 2 ^ m) (sym long) F.x_below) }
 
 pub returns : goal.returns
-returns-then-early-ne0 c =
+returns c =
     let E = c.before.before.before.before.before.before.before.before.before.before.before.before in
     let S = at E in
     let a = S.args in

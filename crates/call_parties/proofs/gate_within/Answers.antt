@@ -48,7 +48,7 @@ put_party-requires c =
       ); neighbours_len = L }
 
 pub returns : goal.returns
-returns-then-number-ne0 c =
+returns c =
     let S = c.before.before.before.before.before.before.before.before.before.before.before.before.before.before.before.before.before.before.before.before.before.before.before.before.before.before.before in
     let a = S.args in
     party-done a.word a.party (lent S) (asked S) S.requires.admitted

@@ -48,7 +48,7 @@ put_party-requires c =
       ); neighbours_len = L }
 
 pub returns : goal.returns
-returns-then-number-ne0 c =
+returns c =
     let S = c.before.before.before.before.before.before.before.before.before.before.before.before.before.before.before.before.before.before.before.before.before.before.before.before.before.before.before.before.before.before.before.before in
     let a = S.args in
     measure-done a.word a.party (lent S) a.pauli a.qubit a.outcome S.requires.admitted

@@ -57,7 +57,7 @@ single-requires c =
     )
 
 pub returns : goal.returns
-returns-then-early-ne0 c =
+returns c =
     let S = c.before.before.before.before.before.before.before.before.before.before.before.before.before.before.before.before in
     let a = S.args in
     observe-done (lent S) a.pauli a.qubit a.bit a.answer.now a.determined.now

@@ -90,6 +90,6 @@ flip-requires c =
     omega (arith, F.below, F.held.upto)
 
 pub returns : goal.returns
-returns-then-early-ne0 c =
+returns c =
     let S = at c.before.before.before.before.before in
     renew-done (lent S) S.args.qubit S.args.code (passes c.before) _ _ _ refl refl c.flip.ensures

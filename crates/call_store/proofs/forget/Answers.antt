@@ -31,6 +31,6 @@ bounds-heads-place c =
     c.if-place-ge8.false
 
 pub returns : goal.returns
-returns-then-early-ne0 c =
+returns c =
     let S = c.before.before.before.before.before.before.before.before in
     forget-done _ (store S) _ c.store_refusal-early.ensures c.if-early-ne0.false _ c.find-place.ensures c.if-place-ge8.false

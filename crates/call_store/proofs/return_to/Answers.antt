@@ -53,7 +53,7 @@ take_record-requires c =
     _ (early R) c.if-early-ne0.false _ c.find-place.ensures c.if-place-ge8.false _ c.word_at-count.ensures in record { i_bound = whole.0; n_in_bounds = whole.1 }
 
 pub returns : goal.returns
-returns-then-early-ne0 c =
+returns c =
     let R = c.before.before.before.before.before.before.before.before.before.before.before.before.before in
     let S = R.before.before.before.before.before.before.before.before in
     return-done _ (store S) _ S.args.neighbours.now S.args.codes.now _ _ (early R) c.if-early-ne0.false _

@@ -42,7 +42,7 @@ put_record-requires c =
     c.if-place-ge8.false in record { i_bound = whole.0; neighbours_in_bounds = whole.1 }
 
 pub returns : goal.returns
-returns-then-early-ne0 c =
+returns c =
     let S = c.before.before.before.before.before.before.before.before.before.before.before.before.before.before.before.before.before.before.before.before.before in
     let a = S.args in
     save-done (lent S) (store S) _ _ c.save_refusal-early.ensures c.if-early-ne0.false _ c.place_for-place.ensures c.if-place-ge8.false

@@ -43,6 +43,6 @@ slice_bounds-used_refusal-end-2 c =
     (counted c.args.n (sym c.bad_count.ensures ∙ c.if-bad_count.false)).1 c.requires.1)
 
 pub returns : goal.returns
-returns-then-bad_count c =
+returns c =
     let S = c.before.before.before.before.before.before in
     no-further (lent S) _ _ c.used_refusal.ensures

@@ -56,7 +56,7 @@ take_record-requires c =
     R.read_text-read.ensures (not-false _ O.if-not-form.false-raw) _ (others-are O) _ c.held_refusal-number.ensures c.if-number-ne0.false in record { i_bound = whole.0; n_in_bounds = whole.1 }
 
 pub returns : goal.returns
-returns-then-not-form c =
+returns c =
     let O = c.before.before.before.before.before.before.before.before.before.before.before.before.before.before in
     
     let R = O.before.before.before.before.before in

@@ -35,7 +35,7 @@ print_record-end-requires c =
     E.used_refusal-early.ensures c.if-early-ne0.false
 
 pub returns : goal.returns
-returns-then-early-ne0 c =
+returns c =
     let E = c.before.before.before.before.before.before in
     let a = (at E).args in
     write_done (lent (at E)) a.text.now a.size.now _ E.other_than-others.ensures _

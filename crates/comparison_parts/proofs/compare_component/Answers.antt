@@ -78,7 +78,7 @@ placed-whole-requires c =
 
 -- src/lib.rt:71:1
 pub returns : goal.returns
-returns-then-spread-component c =
+returns c =
     let a = c.args in record { component_answer = part-accepted a.n a.neighbours.now a.codes.now a.neighbours2.now a.codes2.now a.component
           c.requires.sound_pair c.requires.component.0 c.vertices-listed.result.count c.vertices-listed.result.at
           c.vertices-listed.ensures.0 c.vertices-listed.ensures.1

@@ -80,7 +80,7 @@ loop-rest-preserved c =
 
 -- src/lib.rt:118:1
 pub returns : goal.returns
-returns-then-not-whole c =
+returns c =
     let a = c.args in
     all-answer a.n a.neighbours.now a.codes.now a.neighbours2.now a.codes2.now c.requires.1
     c.loop-rest.rest c.loop-rest.choice c.loop-rest.invariant.0

@@ -91,7 +91,7 @@ wipe-requires-2 c =
     )
 
 pub returns : goal.returns
-returns-then-not-answer c =
+returns c =
     let a = c.args in
     let T = c.class_table in
     let A = c.least_classes-answer in

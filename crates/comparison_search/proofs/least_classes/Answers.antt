@@ -51,7 +51,7 @@ loop-q-preserved c =
     )
 
 pub returns : goal.returns
-returns-then-v-ge6 c =
+returns c =
     let a = c.args in
     let l = c.loop-q in
     classes-end a.n (equations_in a.table.now) l.q l.choice l.invariant.0 c.loop-q-test.false true refl

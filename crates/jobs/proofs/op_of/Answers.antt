@@ -55,7 +55,7 @@ returns-then-k-eq5 c =
 
 pub returns : goal.returns
 unfolding numbered_op
-returns-then-k-eq0 c =
+returns c =
     simp (
   ne_eqb _ _ c.if-k-eq0.false,
   ne_eqb _ _ c.if-k-eq1.false,

@@ -41,4 +41,4 @@ loop-rest-preserved c =
     c.smallest-q.ensures.0 _ c.wrong_vertex.ensures c.if-wrong_vertex.false _ c.flip-rest.ensures
 
 pub returns : goal.returns
-returns-then-wrong_vertex c = none-wrong _ _ _ _ c.loop-rest.invariant c.loop-rest-test.false
+returns c = none-wrong _ _ _ _ c.loop-rest.invariant c.loop-rest-test.false

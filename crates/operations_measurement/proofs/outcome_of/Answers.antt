@@ -11,6 +11,6 @@ returns-then-known c =
     sym (ap (λ d. cond d (Determined a.known.minus) (Chosen a.bit)) c.if-known.true)
 
 pub returns : goal.returns
-returns-then-known c =
+returns c =
     let a = c.args in
     sym (ap (λ d. cond d (Determined a.known.minus) (Chosen a.bit)) c.if-known.false)

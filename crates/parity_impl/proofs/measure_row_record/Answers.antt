@@ -20,5 +20,5 @@ pub normalise-requires : goal.normalise-requires
 normalise-requires c = c.requires.unrefused
 
 pub returns : goal.returns
-returns-then-value-eq2 c =
+returns c =
     left-determined _ _ _ _ _ _ _ _ c.row_value-value.ensures c.if-value-eq2.false c.normalise.ensures

@@ -734,7 +734,7 @@ write_record-requires c =
           c.if-pivots-all.false j }
 
 pub returns : goal.returns
-returns-then-pivots-all c =
+returns c =
     let E = c.before.before.before.before.before.before.before.before.before in
     let A = E.before in
     

@@ -16,7 +16,7 @@ overflow_add-there c =
     omega (arith, sum-small _ _ _ c.requires _ _ _ c.turns-there.ensures c.turns-here.ensures)
 
 pub returns : goal.returns
-returns-then-not-supports c =
+returns c =
     value_there _ _ _ c.requires _ _ _ c.turns-there.ensures c.turns-here.ensures _
     c.supports.ensures
     c.if-not-supports.false-raw _ c.turned.ensures

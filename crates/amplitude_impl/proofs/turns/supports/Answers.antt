@@ -43,7 +43,7 @@ loop-j-preserved c =
     )
 
 pub returns : goal.returns
-returns-then-not-fits c =
+returns c =
     let a = c.args in
     all_pass (fits_at (held_record (record_in a.neighbours.now a.codes.now)) a.y) _ _
     c.loop-j.invariant.0 c.loop-j-test.false c.loop-j.invariant.1

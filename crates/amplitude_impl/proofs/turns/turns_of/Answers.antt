@@ -21,6 +21,6 @@ pub overflow_add-result-2 : goal.overflow_add-result-2
 overflow_add-result-2 c = omega (arith, byte-lt c.dot_below.result)
 
 pub returns : goal.returns
-returns-then-not-has c =
+returns c =
     turns-some c.args.code c.has.ensures _ (not-false _ c.if-not-has.false-raw) c.requires.1 _
     c.dot_below.ensures

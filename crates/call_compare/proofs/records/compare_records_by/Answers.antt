@@ -57,7 +57,7 @@ compare_copies-requires c =
         ) }
 
 pub returns : goal.returns
-returns-then-pair_count c =
+returns c =
     let a = c.args in
     let l : LentRecord = lent_record a.n1 a.neighbours1.now a.codes1.now in
     let m : LentRecord = lent_record a.n2 a.neighbours2.now a.codes2.now in

@@ -47,7 +47,7 @@ complement_record-requires c =
     (as_before (lent S) (asked S) (number c.before.before.before) c.if-early-ne0.false)
 
 pub returns : goal.returns
-returns-then-early-ne0 c =
+returns c =
     let S = c.before.before.before.before.before.before.before.before.before.before.before.before.before in
     in-place-done (lent S) (asked S) (number c.before.before.before.before.before.before.before.before.before) c.if-early-ne0.false
     c.complement_record.ensures.neighbours c.complement_record.ensures.numbers

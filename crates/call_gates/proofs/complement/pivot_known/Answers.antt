@@ -68,7 +68,7 @@ pivot_record-requires c =
     let ready = pair-ready (lent S).held S.args.j S.args.k (paired D) in record { unrefused = ready.0; j_in_bounds = ready.1; k_value = sym c.has.ensures ∙ not-false _ c.if-not-has.false-raw }
 
 pub returns : goal.returns
-returns-then-early-ne0 c =
+returns c =
     let S = c.before.before.before.before.before.before.before.before.before.before.before.before.before.before.before in
     in-place-done (lent S) (pivot_of S.args.j S.args.k)
     (edge-accepts (lent S) S.args.j S.args.k c.in_place_refusal-early.ensures c.if-early-ne0.false _ c.has.ensures

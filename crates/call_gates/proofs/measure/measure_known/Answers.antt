@@ -59,7 +59,7 @@ single-requires c =
     )
 
 pub returns : goal.returns
-returns-then-early-ne0 c =
+returns c =
     let S = c.before.before.before.before.before.before.before.before.before.before.before.before.before.before.before.before in
     let a = S.args in
     measure-done (lent S) a.pauli a.qubit a.outcome a.answer.now a.determined.now

@@ -17,7 +17,7 @@ pub overflow_cast-phase : goal.overflow_cast-phase
 overflow_cast-phase c = omega (arith, c.chosen_product-row.ensures.1)
 
 pub returns : goal.returns
-returns-then-number-ne0 c =
+returns c =
     let a = c.args in
     let l : GeneratorList = record { n = a.n; signs = a.signs.now; z = a.z.now; x = a.x.now } in
     product-accepted l a.chosen (sym c.product_refusal-number.ensures ∙ c.if-number-ne0.false)

@@ -30,7 +30,7 @@ returns-then-stray c =
     (says c.stray.ensures c.if-stray.true)
 
 pub returns : goal.returns
-returns-then-number-eq2 c =
+returns c =
     let a = c.args in
     let l : GeneratorList = record { n = a.n; signs = a.signs.now; z = a.z.now; x = a.x.now } in
     word_good l a.chosen _ c.form_refusal-number.ensures

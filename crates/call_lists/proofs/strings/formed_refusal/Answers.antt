@@ -36,7 +36,7 @@ returns-then-other_than c =
     c.other_than-3.ensures ∙ c.if-other_than.true))))
 
 pub returns : goal.returns
-returns-then-not-string_form c =
+returns c =
     let lines = c.requires (sym c.string_form.ensures ∙ not-false _ c.if-not-string_form.false-raw) in
     first-is (later (ap not (sym c.string_form.ensures) ∙ c.if-not-string_form.false-raw)
     (later (ap bad_count (sym lines) ∙ sym c.bad_count.ensures ∙ c.if-bad_count.false)

@@ -64,7 +64,7 @@ copy_words-requires-2 c =
     omega (arith, F.few, F.x-fit)
 
 pub returns : goal.returns
-returns-then-early-ne0 c =
+returns c =
     let a = c.args in
     read_done a.text.now a.signs.now a.z.now a.x.now _ c.letter_count-n.ensures
     c.formed_refusal-early.ensures c.if-early-ne0.false _ _ _ c.read_rows-list.ensures.signs_value

@@ -46,7 +46,7 @@ put_strings-requires c =
     c.if-number-ne0.false in record { n_bound = whole.0; out_len = whole.1 }
 
 pub returns : goal.returns
-returns-then-bad_count c =
+returns c =
     let a = c.args in
     let l : GeneratorList = record { n = a.n; signs = a.signs.now; z = a.z.now; x = a.x.now } in
     write_done l a.text.now (sym c.other_than.ensures ∙ c.if-other_than.false) c.check-number.ensures

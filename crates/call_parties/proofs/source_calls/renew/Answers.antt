@@ -60,7 +60,7 @@ renew_known-requires c =
     }
 
 pub returns : goal.returns
-returns-then-early-ne0 c =
+returns c =
     let S = at c.before.before.before.before.before.before.before.before.before.before in
     let a = S.args in
     renew-whole a.word a.party (lent S) a.qubit a.code (number c.before.before.before.before.before.before.before.before.before.before) c.if-early-ne0.false

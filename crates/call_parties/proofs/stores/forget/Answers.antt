@@ -46,7 +46,7 @@ bounds-heads-party c =
     c.if-place-ge4.false
 
 pub returns : goal.returns
-returns-then-early-ne0 c =
+returns c =
     let S = c.before.before.before.before.before.before.before.before.before.before in
     forget-done S.args.word S.args.party (lent S) S.args.name (store S) _
     c.shared_refusal-early.ensures c.if-early-ne0.false _ c.own_find-place.ensures

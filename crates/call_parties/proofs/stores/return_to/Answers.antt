@@ -44,7 +44,7 @@ take_merged-requires c =
     c.shared_refusal-early.ensures c.if-early-ne0.false _ c.if-place-ge4.false in record { i_bound = whole.0; neighbours_len = whole.1 }
 
 pub returns : goal.returns
-returns-then-early-ne0 c =
+returns c =
     let S = c.before.before.before.before.before.before.before.before.before.before.before.before.before.before.before.before.before.before.before.before.before in
     return-done S.args.word S.args.party (lent S) S.args.name (store S) _
     c.shared_refusal-early.ensures c.if-early-ne0.false _ c.own_find-place.ensures

@@ -45,7 +45,7 @@ put_masked-requires c =
     c.if-place-ge4.false in record { i_bound = whole.0; heads_len = whole.1 }
 
 pub returns : goal.returns
-returns-then-early-ne0 c =
+returns c =
     let S = c.before.before.before.before.before.before.before.before.before.before.before.before.before.before.before.before.before.before.before.before.before in
     save-done S.args.word S.args.party (lent S) S.args.name (store S) _
     c.shared_refusal-early.ensures c.if-early-ne0.false _ c.own_place_for-place.ensures

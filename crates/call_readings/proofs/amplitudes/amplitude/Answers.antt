@@ -27,7 +27,7 @@ pub bits-requires-3 : goal.bits-requires-3
 bits-requires-3 c = (subst AllNumbers (sym c.plot_at-line.ensures) (all-numbers _ _ _)).p
 
 pub returns : goal.returns
-returns-then-number-ne0 c =
+returns c =
     let a = c.args in
     let u : UsedRecord = used_record a.n a.neighbours.now a.codes.now a.used in
     let l = line-held u a.y (sym c.used_refusal-number.ensures ∙ c.if-number-ne0.false) _ c.plot_at-line.ensures in

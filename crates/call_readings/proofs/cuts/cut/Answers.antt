@@ -15,4 +15,4 @@ cut_rank-requires c =
     let A = accepted-cut u a.side (sym c.used_refusal-number.ensures ∙ c.if-number-ne0.false) in record { n_bound = (A.held.upto, A.held.neighbours-length, A.below); simple = A.held.simple }
 
 pub returns : goal.returns
-returns-then-number-ne0 c = done _ c.used_refusal-number.ensures c.if-number-ne0.false (c.cut_rank.ensures, tt)
+returns c = done _ c.used_refusal-number.ensures c.if-number-ne0.false (c.cut_rank.ensures, tt)

@@ -55,7 +55,7 @@ expand_into-requires c =
         ) }
 
 pub returns : goal.returns
-returns-then-early-ne0 c =
+returns c =
     let O = c.before.before.before.before.before.before.before.before.before.before.before.before.before in
     let S = O.before.before.before.before.before.before.before.before in
     let a = S.args in

@@ -28,7 +28,7 @@ row_value-requires c =
     (sym (words-joined (lent S) S.args.z S.args.x c.used_refusal-number.ensures) ∙ c.if-number-ne0.false) in record { accepted_record = A.held; z_bound = (A.z-below, A.x_below) }
 
 pub returns : goal.returns
-returns-then-number-ne0 c =
+returns c =
     let S = c.before.before.before.before.before.before in
     done _ (words-joined (lent S) S.args.z S.args.x c.used_refusal-number.ensures) c.if-number-ne0.false
     (c.row_value.ensures, tt)

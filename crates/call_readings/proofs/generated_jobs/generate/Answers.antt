@@ -15,7 +15,7 @@ put_job-requires c =
     (sym c.generate_refusal-number.ensures ∙ c.if-number-ne0.false)
 
 pub returns : goal.returns
-returns-then-number-ne0 c =
+returns c =
     let a = c.args in
     generate-accepted a.n a.count a.seed a.text.now c.generate_refusal-number.ensures
     c.if-number-ne0.false _ _ c.put_job.ensures

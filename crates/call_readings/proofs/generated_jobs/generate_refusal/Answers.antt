@@ -23,6 +23,6 @@ returns-then-seed-eq0 c =
     (later (sym c.other_than.ensures ∙ c.if-other_than.false) (here (eq-eqb _ 0 c.if-seed-eq0.true)))))
 
 pub returns : goal.returns
-returns-then-count-gt4096 c =
+returns c =
     first-is (later (le-ltb 4096 _ c.if-count-gt4096.false) (later (sym c.bad_count.ensures ∙ c.if-bad_count.false)
     (later (sym c.other_than.ensures ∙ c.if-other_than.false) (later (ne_eqb _ 0 c.if-seed-eq0.false) none))))

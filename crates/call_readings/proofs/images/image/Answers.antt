@@ -112,7 +112,7 @@ copy_list-requires c =
     )
 
 pub returns : goal.returns
-returns-then-early-ne0 c =
+returns c =
     let H = c.before.before.before.before.before.before.before.before.before.before.before.before.before.before.before.before.before.before.before.before.before.before in
     let A = accepted H in
     

@@ -33,7 +33,7 @@ write_orbit-requires c =
     )
 
 pub returns : goal.returns
-returns-then-number-ne0 c =
+returns c =
     let a = c.args in
     done _ c.orbit_refusal-number.ensures c.if-number-ne0.false (
       c.write_orbit.ensures.0 ∙ ap (λ g. written (orbit_list a.n g) a.list.now) c.graph_number-start.ensures,

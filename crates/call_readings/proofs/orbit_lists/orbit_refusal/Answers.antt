@@ -35,7 +35,7 @@ returns-then-not_simple c =
     (here (says c.not_simple.ensures c.if-not_simple.true)))))
 
 pub returns : goal.returns
-returns-then-n c =
+returns c =
     first-is (later c.if-n.false (later c.if-neighbours-vertices.false
     (later (says c.strays.ensures c.if-strays.false)
     (later (says c.not_simple.ensures c.if-not_simple.false) none))))

@@ -85,7 +85,7 @@ copy_list-requires c =
 -- src/lib.rt:70:1
 -- src/lib.rt:70:1
 pub returns : goal.returns
-returns-then-too_large c =
+returns c =
     let a = c.args in
     let small = (large-tests a.limited a.n a.neighbours.now a.neighbours2.now _ _
     c.requires.accepted_record.neighbours-length

@@ -15,7 +15,7 @@ returns-then-not-limited c =
     (not-true a.limited c.if-not-limited.true-raw)
 
 pub returns : goal.returns
-returns-then-not-limited c =
+returns c =
     let a = c.args in
     limit-on a.limited _ _ (part_above 20 (length a.neighbours.now) (graph_in a.neighbours.now))
     (part_above 20 (length a.neighbours2.now) (graph_in a.neighbours2.now))

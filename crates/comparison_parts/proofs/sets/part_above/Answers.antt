@@ -37,7 +37,7 @@ loop-q-preserved c =
 
 pub returns : goal.returns
 unfolding part_above
-returns-then-count-gt20 c =
+returns c =
     let nb = c.args.neighbours.now in
     found_nowhere (length nb) (is_large (length nb) (graph_in nb)) c.loop-q.q c.loop-q.invariant.before
     c.loop-q-test.false

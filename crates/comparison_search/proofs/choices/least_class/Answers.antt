@@ -38,7 +38,7 @@ loop-v-preserved c =
     c.broken.result c.broken.ensures (not-false c.broken.result c.if-not-broken.false-raw)
 
 pub returns : goal.returns
-returns-then-not-broken c =
+returns c =
     let a = c.args in
     λ n choice inside long h. none-fits (class_assignment n) (equations_in a.table.now) a.q
     (λ u. codes_of (with_class choice a.q u)) 6

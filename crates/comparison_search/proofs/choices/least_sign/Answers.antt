@@ -37,7 +37,7 @@ loop-v-preserved c =
     c.broken.result c.broken.ensures (not-false c.broken.result c.if-not-broken.false-raw)
 
 pub returns : goal.returns
-returns-then-not-broken c =
+returns c =
     let a = c.args in
     λ n choice inside long h. none-fits (sign_assignment n) (equations_in a.table.now) a.q
     (λ u. codes_of (with_signs choice a.q u)) 4

@@ -42,7 +42,7 @@ returns-then-has-3 c =
     )
 
 pub returns : goal.returns
-returns-then-s-eq0 c =
+returns c =
     let t = c.size-s in
     let e = equation_of c.args.e in (
       omega (arith, t.ensures.0),

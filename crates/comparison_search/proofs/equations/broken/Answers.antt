@@ -31,7 +31,7 @@ loop-i-preserved c =
     )
 
 pub returns : goal.returns
-returns-then-fails c =
+returns c =
     let a = c.args in
     all_hold (equations_in a.table.now) a.q (assignment_of a.w) c.loop-i.i c.loop-i.invariant.1
     c.loop-i-test.false

@@ -31,7 +31,7 @@ clear-requires c =
     (c.store-2.ensures.triangular, omega (arith, i, more), omega (arith, c.requires.0))
 
 pub returns : goal.returns
-returns-then-n-lt8 c =
+returns c =
     stored-and-cleared (equations_in c.args.table.now) (equation_of c.args.e)
     (equation_of c.add_rows-left.result) _ _
     (λ w s. c.add_rows-left.ensures w s ∙

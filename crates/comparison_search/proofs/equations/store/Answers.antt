@@ -74,7 +74,7 @@ loop-i-preserved c =
     )
 
 pub returns : goal.returns
-returns-then-empty c =
+returns c =
     let l = c.loop-i in
     insert-nothing (equations_in c.args.table.now) (equation_of c.args.e) c.requires (equations_in l.table)
     (equation_of l.left)

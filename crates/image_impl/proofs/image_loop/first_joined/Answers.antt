@@ -18,4 +18,4 @@ loop-j-preserved c =
     (sym c.joined.ensures ∙ c.if-joined.false)
 
 pub returns : goal.returns
-returns-then-joined c = none_found _ c.loop-j.j c.loop-j.invariant _ c.loop-j-test.false
+returns c = none_found _ c.loop-j.j c.loop-j.invariant _ c.loop-j-test.false

@@ -44,7 +44,7 @@ triple_at-requires c =
     c.first_joined-j.ensures c.if-j-neighbours.false c.smallest-k.result c.smallest-k.ensures.0 in record { j_in_bounds = whole.0; k_value = whole.1 }
 
 pub returns : goal.returns
-returns-then-both-ne0 c =
+returns c =
     triple-done _ _ c.requires.0 c.requires.1 c.if-both-ne0.false c.first_joined-j.result
     c.first_joined-j.ensures c.if-j-neighbours.false c.smallest-k.result c.smallest-k.ensures.0 _
     c.triple_at.ensures

@@ -27,7 +27,7 @@ returns-then-d-eq1 c =
     (λ same. c.if-a-b.false (a ∙ same ∙ sym b)))
 
 pub returns : goal.returns
-returns-then-d-eq0 c =
+returns c =
     let value = ap₂ (λ p o. 2 * p + o) c.below-2.ensures c.below-3.ensures in
     ap₂ (λ a v. does Measure a 0 v) c.below-a.ensures value
     ∙ sym (measure-picked c.args.n c.args.d c.if-d-eq0.false

@@ -22,7 +22,7 @@ returns-then-b-eq109 c =
 
 pub returns : goal.returns
 unfolding first_op
-returns-then-b-eq103 c =
+returns c =
     simp (
   ne_eqb _ _ c.if-b-eq103.false,
   ne_eqb _ _ c.if-b-eq99.false,

@@ -13,4 +13,4 @@ returns-then-k-b c = simp (ne_eqb _ _ c.if-k-eq0.false, c.if-k-b.true) c.after_o
 
 pub returns : goal.returns
 unfolding op_for
-returns-then-k-eq0 c = simp (ne_eqb _ _ c.if-k-eq0.false, c.if-k-b.false)
+returns c = simp (ne_eqb _ _ c.if-k-eq0.false, c.if-k-b.false)

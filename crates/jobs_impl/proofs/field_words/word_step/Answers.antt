@@ -50,7 +50,7 @@ returns-then-b-eq32 c =
     c.if-k-ge11.false c.if-b-word.false c.if-b-eq32.true
 
 pub returns : goal.returns
-returns-then-k-ge11 c =
+returns c =
     c.with_op-2.ensures
     ∙ next-letter _ c.args.s _ _ _ c.op_for-op.ensures c.op_letters-word.ensures
     c.if-k-ge11.false c.if-b-word.false c.if-b-eq32.false

@@ -11,6 +11,6 @@ returns-then-d-lt10 c =
 
 pub returns : goal.returns
 unfolding first_step
-returns-then-d-lt10 c =
+returns c =
     simp (← c.digit_value-d.ensures, le-ltb _ _ c.if-d-lt10.false)
     c.with_number-2.ensures

@@ -56,7 +56,7 @@ returns-then-b-separator_of c =
 
 pub returns : goal.returns
 unfolding more_step
-returns-then-v c =
+returns c =
     simp (
   ← c.digit_value-d.ensures,
   le-ltb _ _ c.if-d-lt10.false,

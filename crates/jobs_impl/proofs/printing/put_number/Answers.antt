@@ -26,7 +26,7 @@ put-tens-requires c =
     )
 
 pub put-requires : goal.put-requires
-put-tens-requires c =
+put-requires c =
     omega (
       arith,
       length-decimal (c.args.k / 100),
@@ -38,7 +38,7 @@ put-tens-requires c =
     )
 
 pub returns : goal.returns
-returns-then-k-lt100 c =
+returns c =
     let k = c.args.k in
     let long = length-decimal (k / 100) in
     same-print (number-long k c.if-k-lt100.false c.requires.0)

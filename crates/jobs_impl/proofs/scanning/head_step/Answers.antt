@@ -32,7 +32,7 @@ returns-then-k-eq19 c =
 
 pub returns : goal.returns
 unfolding head_step
-returns-then-k-ge20 c =
+returns c =
     simp (
   lt-ltb _ _ c.if-k-ge20.false,
   eq-eqb _ _ c.if-b-k.false,

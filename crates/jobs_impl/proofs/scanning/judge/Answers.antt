@@ -29,7 +29,7 @@ returns-then-n c =
 
 pub returns : goal.returns
 unfolding verdict first_fitting
-returns-then-not-at_line c =
+returns c =
     simp (
   ← c.at_line.ensures,
   c.if-not-at_line.false-raw,

@@ -42,6 +42,6 @@ job_answer-requires c =
     (small.0, small.1, small.2, S.requires)
 
 pub returns : goal.returns
-returns-then-number-ne0 c =
+returns c =
     let J = c.before.before.before.before.before.before.before.before in
     job-responds (held (begun J)) _ _ _ _ J.judge-number.ensures c.if-number-ne0.false c.job_answer.ensures

@@ -47,5 +47,5 @@ print_plot-requires c =
     }
 
 pub returns : goal.returns
-returns-then-n-gt10 c =
+returns c =
     same-print (places-plotted _ c.if-n-gt10.false _ _ _) c.print_plot.ensures

@@ -10,6 +10,6 @@ returns-then-verdict c =
     c.plot_answer.ensures
 
 pub returns : goal.returns
-returns-then-verdict c =
+returns c =
     malformed-responds plot_answer _ _ _ _ _ _ _ c.if-verdict.false
     c.print_refusal.ensures

@@ -31,7 +31,7 @@ print_table-requires c =
     let l : GeneratorList = record { n = a.n; signs = a.signs.now; z = a.z.now; x = a.x.now } in record { plottable = reduced-plottable l _ _ _ _ _ c.requires _ _ _ c.reduce-number.ensures c.if-number-ne0.false _ c.lowest-low.ensures; count_bound = table-room l _ _ _ _ _ c.requires _ c.single.ensures }
 
 pub returns : goal.returns
-returns-then-number-ne0 c =
+returns c =
     let a = c.args in
     let l : GeneratorList = record { n = a.n; signs = a.signs.now; z = a.z.now; x = a.x.now } in
     same-print (table-plotted l _ _ _ _ _ c.requires _ _ _ c.reduce-number.ensures c.if-number-ne0.false _ c.single.ensures)

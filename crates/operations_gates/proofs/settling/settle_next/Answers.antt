@@ -40,6 +40,6 @@ settle_at-touched-requires c =
           (sym c.is_unsettled.ensures ∙ not-false _ c.if-not-is_unsettled.false-raw) }
 
 pub returns : goal.returns
-returns-then-not-is_unsettled c =
+returns c =
     next-settled _ _ c.requires.unrefused _ c.requires.watched.0 c.requires.watched.1 _ c.smallest-j.ensures.0 _
     c.requires.suspected _ _ _ _ c.settle_at-touched.ensures.nearer c.settle_at-touched.ensures.elsewhere

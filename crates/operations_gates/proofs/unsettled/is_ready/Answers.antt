@@ -71,7 +71,7 @@ has-requires c =
     omega (arith, c.requires.a_in_bounds.1, unrefused-short _ _ c.requires.unrefused)
 
 pub returns : goal.returns
-returns-then-is_crossed c =
+returns c =
     λ e.
     
     ready-parted _ _ c.requires.unrefused c.args.a c.args.b

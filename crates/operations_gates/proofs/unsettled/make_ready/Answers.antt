@@ -30,6 +30,6 @@ pub shape_of-codes : goal.shape_of-codes
 shape_of-codes c = search rules
 
 pub returns : goal.returns
-returns-then-is_ready c =
+returns c =
     record { group_kept = kept_trans _ _ _ _ _ _
           c.uncross_both.ensures c.part_both.ensures.group_kept; ready = c.part_both.ensures.ready }

@@ -43,6 +43,6 @@ pub shape_of-codes : goal.shape_of-codes
 shape_of-codes c = search rules
 
 pub returns : goal.returns
-returns-then-is_ready c =
+returns c =
     let N = c.normalise.ensures in
     let K = c.part.ensures in record { group_kept = kept_trans _ _ _ _ _ _ K N.kept; ready = normalised-ready _ _ _ _ _ _ K N _ _ c.requires.a_in_bounds.0 c.requires.a_in_bounds.1 }

@@ -35,7 +35,7 @@ bounds-codes-q-2 c =
     unrefused-place _ _ start.0 _ start.1
 
 pub returns : goal.returns
-returns-then-t c =
+returns c =
     let start = c.requires in
     isolated-alone _ _ start.0 c.args.q c.args.t c.if-t.false _ _ _
     (unrefused-place _ _ start.0 _ start.1) c.with_hadamard-own.ensures refl

@@ -33,7 +33,7 @@ returns-then-sends-2 c =
     measured-letter (c.sends-2.ensures.0 c.if-sends-2.true) c.measure_z.ensures
 
 pub returns : goal.returns
-returns-then-sends c =
+returns c =
     measured-letter
     (third-by-calls (codes_of c.args.codes.now c.args.q) c.args.l c.requires.fact
     c.sends.ensures c.if-sends.false

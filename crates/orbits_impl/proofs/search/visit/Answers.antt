@@ -34,6 +34,6 @@ overflow_add-result c =
 
 pub returns : goal.returns
 unfolding marked
-returns-then-has c =
+returns c =
     visited-anew c.args.h c.requires.0 c.args.marks.now c.args.list.now c.args.tail c.requires.1
     (sym c.has.ensures ∙ c.if-has.false) _ c.flip.ensures

@@ -17,7 +17,7 @@ letters_minus-minus-requires c =
     sym (letters-commute a.own a.by) ∙ c.requires
 
 pub returns : goal.returns
-returns-then-not-clashes c =
+returns c =
     let a = c.args in
     multiplied a.own a.by a.z a.x (sym c.clashes.ensures ∙ not-false _ c.if-not-clashes.false-raw) _
     c.letters_minus-minus.ensures

@@ -24,4 +24,4 @@ loop-j-preserved c =
     none_here _ c.loop-j.j c.loop-j.invariant (sym c.clashes.ensures ∙ c.if-clashes.false)
 
 pub returns : goal.returns
-returns-then-clashes c = none_found _ c.loop-j.j c.loop-j.invariant _ c.loop-j-test.false
+returns c = none_found _ c.loop-j.j c.loop-j.invariant _ c.loop-j-test.false

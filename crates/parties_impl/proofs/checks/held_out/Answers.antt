@@ -60,4 +60,4 @@ loop-i-preserved c =
     )
 
 pub returns : goal.returns
-returns-then-word_at-reaches_out c = no-some _ _ c.loop-i.invariant.1 _ c.loop-i-test.false
+returns c = no-some _ _ c.loop-i.invariant.1 _ c.loop-i-test.false

@@ -68,7 +68,7 @@ places_refusal-requires c =
     (sym c.wrong_lengths.ensures ∙ c.if-wrong_lengths.false) c.if-party-gt1.false in record { codes_value = whole.0; neighbours_len = whole.1 }
 
 pub returns : goal.returns
-returns-then-other_count c =
+returns c =
     let S = c.before.before.before.before.before.before.before.before.before.before.before.before.before.before in
     own-answer S.args.word S.args.party (lent S) (sym c.other_count.ensures ∙ c.if-other_count.false)
     (sym c.wrong_lengths.ensures ∙ c.if-wrong_lengths.false) c.if-party-gt1.false _ c.own_word.ensures _

@@ -25,7 +25,7 @@ pub then-turned-requires : goal.then-turned-requires
 then-turned-requires c = (plain-lt c.args.y c.args.minus, lit< tt)
 
 pub returns : goal.returns
-returns-then-not-hadamard c =
+returns c =
     let a = c.args in
     turned-vertex a.hadamard a.y a.minus _ (not-false _ c.if-not-hadamard.false-raw) c.then-turned.ensures.index_value
     c.then-turned.ensures.index_bound

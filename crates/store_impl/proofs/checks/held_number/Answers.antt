@@ -38,6 +38,6 @@ slice_bounds-used_refusal-end-2 c =
     sym (part-long c.args.n c.args.codes.now c.requires.0 c.requires.2)
 
 pub returns : goal.returns
-returns-then-n-eq0 c =
+returns c =
     let S = c.before.before.before.before.before in
     held-place-number (lent S) c.if-n-eq0.false (no-further (lent S) _ _ c.used_refusal.ensures)

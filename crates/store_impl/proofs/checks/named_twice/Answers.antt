@@ -63,4 +63,4 @@ loop-i-preserved c =
     )
 
 pub returns : goal.returns
-returns-then-word_at-before c = no-some _ _ c.loop-i.invariant.1 _ c.loop-i-test.false
+returns c = no-some _ _ c.loop-i.invariant.1 _ c.loop-i-test.false

@@ -24,4 +24,4 @@ loop-i-preserved c =
     )
 
 pub returns : goal.returns
-returns-then-is_free c = none_found _ _ c.loop-i.invariant.1 _ c.loop-i-test.false
+returns c = none_found _ _ c.loop-i.invariant.1 _ c.loop-i-test.false

@@ -14,7 +14,7 @@ returns-then-at-k c =
     (below-some _ _ (subst (λ p. p < a.k) c.find-at.ensures c.if-at-k.true)))
 
 pub returns : goal.returns
-returns-then-at-k c =
+returns c =
     let a = c.args in
     c.free.ensures ∙ sym (ap (λ b. cond b (place_of a.k a.heads.now a.name)
     (free_place a.k a.heads.now))

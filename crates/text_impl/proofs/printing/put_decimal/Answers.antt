@@ -13,6 +13,6 @@ returns-then-k-lt10 c =
 
 pub returns : goal.returns
 unfolding decimal
-returns-then-k-lt10 c =
+returns c =
     simp (le-ltb _ _ c.if-k-lt10.false)
     (and_then (omega arith) c.put-next.ensures c.put-2.ensures)

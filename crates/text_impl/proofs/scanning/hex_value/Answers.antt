@@ -32,7 +32,7 @@ returns-then-b-lt103 c =
 
 pub returns : goal.returns
 unfolding hex_value
-returns-then-b-lt48 c =
+returns c =
     simp (
   le-ltb _ _ c.if-b-lt48.false,
   le-ltb _ _ c.if-b-lt58.false,

@@ -22,7 +22,7 @@ returns-then-k-eq8 c =
 
 pub returns : goal.returns
 unfolding names_step
-returns-then-k-ge9 c =
+returns c =
     simp (
   lt-ltb _ _ c.if-k-ge9.false,
   eq-eqb _ _ c.if-b-k.false,

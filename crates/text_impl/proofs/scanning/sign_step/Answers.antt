@@ -13,6 +13,6 @@ returns-then-b-lt58 c = simp (le-ltb _ _ c.if-b-lt48.false, lt-ltb _ _ c.if-b-lt
 
 pub returns : goal.returns
 unfolding sign_step
-returns-then-b-lt48 c =
+returns c =
     simp (le-ltb _ _ c.if-b-lt48.false, le-ltb _ _ c.if-b-lt58.false)
     c.at_place-2.ensures

@@ -29,7 +29,7 @@ returns-then-d-ge16 c =
 
 pub returns : goal.returns
 unfolding x_step
-returns-then-b-eq10 c =
+returns c =
     simp (
   lt-ltb _ _ c.if-k-ge-DIGITS.false,
   ← c.hex_value-d.ensures,

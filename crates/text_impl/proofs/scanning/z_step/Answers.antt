@@ -26,7 +26,7 @@ returns-then-d-ge16 c =
 
 pub returns : goal.returns
 unfolding z_step
-returns-then-b-eq32 c =
+returns c =
     simp (
   lt-ltb _ _ c.if-k-ge-DIGITS.false,
   ← c.hex_value-d.ensures,

@@ -11,7 +11,7 @@ returns-then-second-eq32 c =
     c.byte_at-second.ensures c.if-second-eq32.true c.word_at.ensures c.byte_at-then-second-eq32.ensures
 
 pub returns : goal.returns
-returns-then-second-eq32 c =
+returns c =
     let a = c.args in
     two_digits a.text.now a.from (c.decimal_value-first.ensures ∙ ap decimal_value c.byte_at.ensures)
     c.byte_at-second.ensures c.if-second-eq32.false c.decimal_value.ensures c.word_at-2.ensures c.byte_at-2.ensures

@@ -19,4 +19,4 @@ loop-i-preserved c =
     c.if-text-i.false
 
 pub returns : goal.returns
-returns-then-text-size c = record { text_value = (λ _. all-compared _ _ _ c.requires c.loop-i.invariant c.loop-i-test.false c.if-text-size.false); fact = (λ e. absurd (true≢false e)) }
+returns c = record { text_value = (λ _. all-compared _ _ _ c.requires c.loop-i.invariant c.loop-i-test.false c.if-text-size.false); fact = (λ e. absurd (true≢false e)) }

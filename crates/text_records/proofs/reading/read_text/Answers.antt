@@ -100,6 +100,6 @@ loop-at-preserved c =
     (not-false _ c.if-not-fits.false-raw) c.put_bit-used.ensures
 
 pub returns : goal.returns
-returns-then-not-starts_with c =
+returns c =
     let A = c.before.before in
     all-followed (text A.before.before) (followed A) c.loop-at-test.false

@@ -21,4 +21,4 @@ pub overflow_sub-result-2 : goal.overflow_sub-result-2
 overflow_sub-result-2 c = c.loop-end.invariant.start
 
 pub returns : goal.returns
-returns-then-text-end-eq10 c form = newline-missing c.args.text.now c.loop-end.invariant form c.loop-end-test.false
+returns c form = newline-missing c.args.text.now c.loop-end.invariant form c.loop-end-test.false
