@@ -2,7 +2,6 @@
 -- it is written, and the answer is true.
 use mathlib.Core.Bool.{◌&&◌, beq, false, not, true}
 use mathlib.Core.List.{List, [], ◌∷◌}
-use mathlib.Core.Logic.{⊎_elim}
 use mathlib.Core.Path.{◌∙◌, ◌≡◌, ap, ap₂, fun_ext, refl, subst, sym}
 use Prim.Native.Nat.{◌+◌, ◌-◌, ◌/◌, ◌<◌, ◌^◌, ◌≤◌, zero-le, ℕ}
 use native.Mathlib.Nat.{le_refl, lt_irrefl, lt_of_lt_of_le}
@@ -38,6 +37,7 @@ use Rattle.record_reduction.proofs.reduce_tableau.Lts as lts
 use Rattle.record_reduction.proofs.reduce_tableau.Reads as reads
 use Rattle.record_reduction.proofs.reduce_tableau.Tie as tie
 use Rattle.record_reduction.proofs.reduce_tableau.Goals as goal
+use Rattle.record_reduction.proofs.reduce_tableau.Goals.{else-not-has, else-not-has-2, else-round-eq0, then-not-has+else-loop-j-test+else-free-ne0, then-not-has+else-loop-j-test+then-free-ne0+else-loop-rest-test, then-not-has-2, then-round-eq0+else-loop-i-test}
 
 -- where the lemmas below stand
 abbrev Start : Type 0
@@ -332,34 +332,36 @@ lent_row c j =
 -- where the arms meet: row q has the bit, lent or its own
 long : (c : Joined3) → length c.if-not-has-2.rows ≡ 64
 long c =
-    ⊎_elim (λ w. ap length w.9 ∙ lent-long (record {
+    elim c.if-not-has-2.branch [
+      then-not-has-2 w ↦ ap length w.rows-is ∙ lent-long (record {
       before = record {
         before = record {
           before = record {
             before = record {
               before = record {
-                before = record { before = record { before = c.before; if3 = w.0 }; smallest = w.1 };
-                lender = w.2;
+                before = record { before = record { before = c.before; if-not-has-2 = w.if-not-has-2 }; smallest-i = w.smallest-i };
+                lender-1 = w.lender-1;
               };
-              row3 = w.3;
+              row-then-not-has-2-1 = w.row-then-not-has-2-1;
             };
-            minus-word = w.4;
+            minus_word = w.minus_word;
           };
-          odd = w.5;
+          odd-minus = w.odd-minus;
         };
-        has3 = w.6;
+        has-then-not-has-2 = w.has-then-not-has-2;
       };
-      flip-where2 = w.7;
-    }))
-    (λ w. ap length w.2 ∙ (turn c.before.before).loop-q.invariant.1) c.if-not-has-2.branch
+      flip_where-signs-then-not-has-2 = w.flip_where-signs-then-not-has-2;
+    })
+    | else-not-has-2 w ↦ ap length w.rows-is ∙ (turn c.before.before).loop-q.invariant.1
+    ]
 
 lent : (c : Joined3) (j : ℕ) → relative (bit c.if-not-has-2.signs) c.if-not-has-2.rows j
     ≡ (lent-in c.before.before) j
 lent c j =
     let D = c.before.before in
     let C = (turn D) in
-    ⊎_elim
-    (λ w. ap₂ (λ m v. relative (bit m) v j) w.8 w.9 ∙ lent_row (record {
+    elim c.if-not-has-2.branch [
+      then-not-has-2 w ↦ ap₂ (λ m v. relative (bit m) v j) w.signs-is w.rows-is ∙ lent_row (record {
       before = record {
         before = record {
           before =
@@ -367,26 +369,26 @@ lent c j =
                 before = record {
                   before = record {
                     before = record {
-                      before = record { before = c.before; if3 = w.0 };
-                      smallest = w.1;
+                      before = record { before = c.before; if-not-has-2 = w.if-not-has-2 };
+                      smallest-i = w.smallest-i;
                     };
-                    lender = w.2;
+                    lender-1 = w.lender-1;
                   };
-                  row3 = w.3;
+                  row-then-not-has-2-1 = w.row-then-not-has-2-1;
                 };
-                minus-word = w.4;
+                minus_word = w.minus_word;
               };
-          odd = w.5;
+          odd-minus = w.odd-minus;
         };
-        has3 = w.6;
+        has-then-not-has-2 = w.has-then-not-has-2;
       };
-      flip-where2 = w.7;
+      flip_where-signs-then-not-has-2 = w.flip_where-signs-then-not-has-2;
     })
-    j)
-    (λ w. ap₂ (λ m v. relative (bit m) v j) w.1 w.2
+    j
+    | else-not-has-2 w ↦ ap₂ (λ m v. relative (bit m) v j) w.signs-is w.rows-is
     ∙ lent-already (rows_in C) C.loop-q.q (count_trailing_zeros 64 (free_in D)) D.loop-j.holders
-    (ready D _ refl) (sym c.has-then-free-ne0.ensures ∙ not-false _ w.0.left) j)
-    c.if-not-has-2.branch
+    (ready D _ refl) (sym c.has-then-free-ne0.ensures ∙ w.if-not-has-2.false) j
+    ]
 
 not_named : (c : AfterPutBit) → bit c.put_bit-rest.result (turn c.before.before.before.before).loop-q.q
     ≡
@@ -550,28 +552,31 @@ loop-q-preserved c =
     let S = (start-3 C) in
     let L = C.loop-q in (
       omega arith,
-      ⊎_elim (λ w. ap length w.15 ∙ w.11.invariant.long)
-          (⊎_elim (λ w. ap length w.5 ∙ L.invariant.1) (λ w. ap length w.2 ∙ L.invariant.1)) c.if-not-has.branch,
+      elim c.if-not-has.branch [
+      then-not-has+else-loop-j-test+then-free-ne0+else-loop-rest-test w ↦ ap length w.rows-is ∙ w.loop-rest.invariant.long
+    | then-not-has+else-loop-j-test+else-free-ne0 w ↦ ap length w.rows-is ∙ L.invariant.1
+    | else-not-has w ↦ ap length w.rows-is ∙ L.invariant.1
+    ],
       eliminated-at (sym (add-one L.q))
-          (⊎_elim
-          (λ w. column-pivoted S.args.n L.q S.requires.le_n.1 C.loop-q-test.true (rows_in C) (loaded3 C)
-          w.1.holders
+          (elim c.if-not-has.branch [
+      then-not-has+else-loop-j-test+then-free-ne0+else-loop-rest-test w ↦ column-pivoted S.args.n L.q S.requires.le_n.1 C.loop-q-test.true (rows_in C) (loaded3 C)
+          w.loop-j.holders
           L.pivots _ (holders (record {
             before = record {
-              before = record { before = c.before.before; if1 = w.0 };
-              loop4 = w.1;
+              before = record { before = c.before.before; if-not-has = w.if-not-has };
+              loop-j = w.loop-j;
             };
-            loop4-test = w.2;
+            loop-j-test = w.loop-j-test;
           })) refl _
-          (free-row S.args.n L.q S.requires.le_n.1 C.loop-q-test.true (rows_in C) (loaded3 C) w.1.holders
+          (free-row S.args.n L.q S.requires.le_n.1 C.loop-q-test.true (rows_in C) (loaded3 C) w.loop-j.holders
           L.pivots _ (holders (record {
             before = record {
-              before = record { before = c.before.before; if1 = w.0 };
-              loop4 = w.1;
+              before = record { before = c.before.before; if-not-has = w.if-not-has };
+              loop-j = w.loop-j;
             };
-            loop4-test = w.2;
-          })) refl w.3.true _ refl) _
-          (λ j. ap₂ (λ m v. relative (bit m) v j) w.14 w.15 ∙ pivot-done (record {
+            loop-j-test = w.loop-j-test;
+          })) refl w.if-free-ne0.true _ refl) _
+          (λ j. ap₂ (λ m v. relative (bit m) v j) w.signs-is w.rows-is ∙ pivot-done (record {
             before = record {
               before = record {
                 before = record {
@@ -584,47 +589,46 @@ loop-q-preserved c =
                                 record {
                                   before = record {
                                     before = record {
-                                      before = record { before = c.before.before; if1 = w.0 };
-                                      loop4 =
-                                          w.1;
+                                      before = record { before = c.before.before; if-not-has = w.if-not-has };
+                                      loop-j =
+                                          w.loop-j;
                                     };
-                                    loop4-test = w.2;
+                                    loop-j-test = w.loop-j-test;
                                   };
-                                  if2 = w.3;
+                                  if-free-ne0 = w.if-free-ne0;
                                 };
-                            has2 = w.4;
+                            has-then-free-ne0 = w.has-then-free-ne0;
                           };
-                          if3 = w.5;
+                          if-not-has-2 = w.if-not-has-2;
                         };
-                        by = w.6;
+                        by-1 = w.by-1;
                       };
-                      put-bit = w.7;
+                      put_bit-rest = w.put_bit-rest;
                     };
-                    has4 = w.8;
+                    has-then-free-ne0-2 = w.has-then-free-ne0-2;
                   };
-                  where-true = w.9;
+                  where_true-signs = w.where_true-signs;
                 };
-                row-known = w.10;
+                row_known-1 = w.row_known-1;
               };
-              loop5 = w.11;
+              loop-rest = w.loop-rest;
             };
-            loop5-test = w.12;
+            loop-rest-test = w.loop-rest-test;
           }) j) _
-          (λ j. ap (λ v. bit v j) w.16 ∙ w.13.ensures j) _ _ L.invariant.2)
-          (⊎_elim
-          (λ w. same-state w.4 w.6 w.5
+          (λ j. ap (λ v. bit v j) w.pivots-is ∙ w.put_bit-pivots.ensures j) _ _ L.invariant.2
+    | then-not-has+else-loop-j-test+else-free-ne0 w ↦ same-state w.signs-is w.pivots-is w.rows-is
           (column-skipped S.args.n L.q S.requires.le_n.1 C.loop-q-test.true (rows_in C) (loaded3 C)
-          w.1.holders
+          w.loop-j.holders
           L.pivots _ (holders (record {
             before = record {
-              before = record { before = c.before.before; if1 = w.0 };
-              loop4 = w.1;
+              before = record { before = c.before.before; if-not-has = w.if-not-has };
+              loop-j = w.loop-j;
             };
-            loop4-test = w.2;
-          })) refl w.3.left _ _ L.invariant.2))
-          (λ w. same-state w.1 w.3 w.2
-          (pivoted L.invariant.2 C.loop-q-test.true (sym c.has.ensures ∙ not-false _ w.0.left))))
-          c.if-not-has.branch),
+            loop-j-test = w.loop-j-test;
+          })) refl w.if-free-ne0.false _ _ L.invariant.2)
+    | else-not-has w ↦ same-state w.signs-is w.pivots-is w.rows-is
+          (pivoted L.invariant.2 C.loop-q-test.true (sym c.has.ensures ∙ not-false _ w.if-not-has.false))
+    ]),
     )
 
 -- ---- the Hadamards
@@ -671,35 +675,38 @@ loop-round-preserved c =
     let S = start-2 A in
     let L = A.loop-round in
     let P = c.loop-q in (
-      ⊎_elim
-          (λ w. subst (λ h. Stage S.args.n A.mask-all.result (relative (bit A.loop-k.signs) S.args.rows)
-          (relative (bit c.if-round-eq0.signs) c.if-round-eq0.rows) P.pivots h (L.round + 1)) (sym w.5)
+      elim c.if-round-eq0.branch [
+      then-round-eq0+else-loop-i-test w ↦ subst (λ h. Stage S.args.n A.mask-all.result (relative (bit A.loop-k.signs) S.args.rows)
+          (relative (bit c.if-round-eq0.signs) c.if-round-eq0.rows) P.pivots h (L.round + 1)) (sym w.hadamards-is)
           (first_round S.args.n S.requires.le_n.1 A.mask-all.result A.mask-all.ensures
           (relative (bit A.loop-k.signs) S.args.rows) (loaded A) (relative (bit L.signs) L.rows) L.pivots
           L.hadamards
-          L.round L.invariant.0 w.0.true (relative (bit P.signs) P.rows) P.pivots (passed c.before.before) _
+          L.round L.invariant.0 w.if-round-eq0.true (relative (bit P.signs) P.rows) P.pivots (passed c.before.before) _
           refl
           (relative (bit c.if-round-eq0.signs) c.if-round-eq0.rows)
-          (λ j. ap₂ (λ m v. relative (bit m) v j) w.3 w.4
-          ∙ rotate-end P.rows P.signs S.args.n _ w.1.rows w.1.signs w.1.i w.1.invariant w.2.left
+          (λ j. ap₂ (λ m v. relative (bit m) v j) w.signs-is w.rows-is
+          ∙ rotate-end P.rows P.signs S.args.n _ w.loop-i.rows w.loop-i.signs w.loop-i.i w.loop-i.invariant w.loop-i-test.false
           (eliminated-loaded S.args.n S.requires.le_n.1 (loaded2 c.before.before.before.before)
           (passed c.before.before)).beyond
-          j)))
-          (λ w. subst (λ h. Stage S.args.n A.mask-all.result (relative (bit A.loop-k.signs) S.args.rows)
-          (relative (bit c.if-round-eq0.signs) c.if-round-eq0.rows) P.pivots h (L.round + 1)) (sym w.3)
+          j))
+    | else-round-eq0 w ↦ subst (λ h. Stage S.args.n A.mask-all.result (relative (bit A.loop-k.signs) S.args.rows)
+          (relative (bit c.if-round-eq0.signs) c.if-round-eq0.rows) P.pivots h (L.round + 1)) (sym w.hadamards-is)
           (second-round S.args.n S.requires.le_n.1 A.mask-all.result A.mask-all.ensures
           (relative (bit A.loop-k.signs) S.args.rows) (loaded A) (relative (bit L.signs) L.rows) L.pivots
           L.hadamards
-          L.round L.invariant.0 c.loop-round-test.true w.0.left
+          L.round L.invariant.0 c.loop-round-test.true w.if-round-eq0.false
           (relative (bit c.if-round-eq0.signs)
           c.if-round-eq0.rows)
           P.pivots
           (subst (λ f. Eliminated S.args.n (relative (bit L.signs) L.rows) (bit L.pivots) f
           (bit P.pivots)
           S.args.n)
-          (ap₂ (λ m v. relative (bit m) v) (sym w.1) (sym w.2)) (passed c.before.before))))
-          c.if-round-eq0.branch,
-      ⊎_elim (λ w. ap length w.4 ∙ w.1.invariant.long) (λ w. ap length w.2 ∙ P.invariant.1) c.if-round-eq0.branch,
+          (ap₂ (λ m v. relative (bit m) v) (sym w.signs-is) (sym w.rows-is)) (passed c.before.before)))
+    ],
+      elim c.if-round-eq0.branch [
+      then-round-eq0+else-loop-i-test w ↦ ap length w.rows-is ∙ w.loop-i.invariant.long
+    | else-round-eq0 w ↦ ap length w.rows-is ∙ P.invariant.1
+    ],
     )
 
 -- ---- the end

@@ -32,7 +32,7 @@ loop-q-preserved c =
     w.count.result _ w.part-component.ensures w.count.ensures.0 (le-ltb 20 _ w.if-count-gt20.left) w.seen-is
     | else-not-has w ↦ subst (λ s. Seen n (graph_in nb) s (c.loop-q.q + 1)) (sym w.seen-is)
     (seen-again n (graph_in nb) c.loop-q.seen c.loop-q.q c.loop-q.invariant more
-    (sym c.has.ensures ∙ not-false _ w.if-not-has.false))
+    (sym c.has.ensures ∙ w.if-not-has.false))
     ]
 
 pub returns : goal.returns
