@@ -8,7 +8,7 @@ use Rattle.call_lists.proofs.reduce_unused.Goals as goal
 
 -- where the lemmas below stand
 abbrev Start : Type 0
-Start = lts.Start tie.the-claims reads.Pre reads.Post tie.handed_clauses
+Start = lts.Start tie.the-claims reads.Pre reads.Post
 
 -- the list that is lent
 abbrev lent : Start → GeneratorList

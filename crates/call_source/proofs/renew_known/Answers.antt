@@ -17,16 +17,16 @@ use Rattle.call_source.proofs.renew_known.Goals as goal
 
 -- where the lemmas below stand
 abbrev AfterKnownRefusalEarly : Type 0
-AfterKnownRefusalEarly = lts.After-known_refusal tie.the-claims reads.Pre reads.Post tie.handed_clauses
+AfterKnownRefusalEarly = lts.After-known_refusal tie.the-claims reads.Pre reads.Post
 
 abbrev ElseNQubit : Type 0
-ElseNQubit = lts.Else2 tie.the-claims reads.Pre reads.Post tie.handed_clauses
+ElseNQubit = lts.Else2 tie.the-claims reads.Pre reads.Post
 
 abbrev ElseNotBitAt : Type 0
-ElseNotBitAt = lts.Else3 tie.the-claims reads.Pre reads.Post tie.handed_clauses
+ElseNotBitAt = lts.Else3 tie.the-claims reads.Pre reads.Post
 
 abbrev Start : Type 0
-Start = lts.Start tie.the-claims reads.Pre reads.Post tie.handed_clauses
+Start = lts.Start tie.the-claims reads.Pre reads.Post
 
 -- the record that is lent
 abbrev lent : Start → UsedRecord

@@ -8,7 +8,7 @@ use Rattle.call_store.proofs.forget.Goals as goal
 
 -- where the lemmas below stand
 abbrev Start : Type 0
-Start = lts.Start tie.the-claims reads.Pre reads.Post tie.handed_clauses
+Start = lts.Start tie.the-claims reads.Pre reads.Post
 
 -- the store that is lent
 abbrev store : Start → Store

@@ -13,7 +13,7 @@ use Rattle.call_texts.proofs.held_refusal.Goals as goal
 
 -- where the lemmas below stand
 abbrev Start : Type 0
-Start = lts.Start tie.the-claims reads.Pre reads.Post tie.handed_clauses
+Start = lts.Start tie.the-claims reads.Pre reads.Post
 
 -- the record in the first n places
 abbrev lent : Start → UsedRecord

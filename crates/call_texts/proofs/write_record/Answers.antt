@@ -8,10 +8,10 @@ use Rattle.call_texts.proofs.write_record.Goals as goal
 
 -- where the lemmas below stand
 abbrev AfterUsedRefusalEarly : Type 0
-AfterUsedRefusalEarly = lts.After-used_refusal tie.the-claims reads.Pre reads.Post tie.handed_clauses
+AfterUsedRefusalEarly = lts.After-used_refusal tie.the-claims reads.Pre reads.Post
 
 abbrev Start : Type 0
-Start = lts.Start tie.the-claims reads.Pre reads.Post tie.handed_clauses
+Start = lts.Start tie.the-claims reads.Pre reads.Post
 
 -- the record that is lent
 abbrev lent : Start → UsedRecord

@@ -627,7 +627,7 @@ loop-q-preserved c =
             loop-j-test = w.loop-j-test;
           })) refl w.if-free-ne0.false _ _ L.invariant.2)
     | else-not-has w ↦ same-state w.signs-is w.pivots-is w.rows-is
-          (pivoted L.invariant.2 C.loop-q-test.true (sym c.has.ensures ∙ not-false _ w.if-not-has.false))
+          (pivoted L.invariant.2 C.loop-q-test.true (sym c.has.ensures ∙ w.if-not-has.false))
     ]),
     )
 

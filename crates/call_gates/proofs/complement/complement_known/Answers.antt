@@ -16,10 +16,10 @@ use Rattle.call_gates.proofs.complement.complement_known.Goals as goal
 
 -- where the lemmas below stand
 abbrev AfterInPlaceRefusalEarly : Type 0
-AfterInPlaceRefusalEarly = lts.After-in_place_refusal tie.the-claims reads.Pre reads.Post tie.handed_clauses
+AfterInPlaceRefusalEarly = lts.After-in_place_refusal tie.the-claims reads.Pre reads.Post
 
 abbrev Start : Type 0
-Start = lts.Start tie.the-claims reads.Pre reads.Post tie.handed_clauses
+Start = lts.Start tie.the-claims reads.Pre reads.Post
 
 -- the record that is lent
 abbrev lent : Start → UsedRecord

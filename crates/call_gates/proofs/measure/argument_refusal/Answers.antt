@@ -10,7 +10,7 @@ use Rattle.call_gates.proofs.measure.argument_refusal.Goals as goal
 
 -- where the lemmas below stand
 abbrev Start : Type 0
-Start = lts.Start tie.the-claims reads.Pre reads.Post tie.handed_clauses
+Start = lts.Start tie.the-claims reads.Pre reads.Post
 
 -- the record that is lent
 abbrev lent : Start → UsedRecord

@@ -16,10 +16,10 @@ use Rattle.call_parties.proofs.source_calls.renew.Goals as goal
 
 -- where the lemmas below stand
 abbrev AfterPartyRefusalEarly : Type 0
-AfterPartyRefusalEarly = lts.After-party_refusal tie.the-claims reads.Pre reads.Post tie.handed_clauses
+AfterPartyRefusalEarly = lts.After-party_refusal tie.the-claims reads.Pre reads.Post
 
 abbrev Start : Type 0
-Start = lts.Start tie.the-claims reads.Pre reads.Post tie.handed_clauses
+Start = lts.Start tie.the-claims reads.Pre reads.Post
 
 -- the record that is lent
 abbrev lent : Start → UsedRecord

@@ -12,7 +12,7 @@ use Rattle.call_parties.proofs.stores.shared_refusal.Goals as goal
 
 -- where the lemmas below stand
 abbrev Start : Type 0
-Start = lts.Start tie.the-claims reads.Pre reads.Post tie.handed_clauses
+Start = lts.Start tie.the-claims reads.Pre reads.Post
 
 -- the record that is lent
 abbrev lent : Start → UsedRecord

@@ -71,8 +71,8 @@ returns-then-told-ne0 c =
     image-looped l a.image.now a.signs.now a.list.now a.count.now _ o _
     H.record_refusal-early.ensures H.if-early-ne0.false _
     (answered-longer _ _ _ A _ _ _ _ _ c.image_in-told.ensures [] []
-    (c.image_in-told.auto.1.1.0 ∙ part-long _ _ A.upto refl)
-    (c.image_in-told.auto.1.1.1.0 ∙ part-long _ _ A.upto refl))
+    (c.image_in-told.auto.words ∙ part-long _ _ A.upto refl)
+    (c.image_in-told.auto.bytes ∙ part-long _ _ A.upto refl))
     c.if-told-ne0.true
 
 pub copy_words-requires : goal.copy_words-requires
@@ -104,8 +104,8 @@ copy_list-requires c =
     let o = ap₂ ◌||◌ H.other_than.ensures
     (ap₂ ◌||◌ H.other_than-2.ensures H.other_than-3.ensures) in
     let I = (answered-longer _ _ _ A _ _ _ _ _ c.image_in-told.ensures [] []
-    (c.image_in-told.auto.1.1.0 ∙ part-long _ _ A.upto refl)
-    (c.image_in-told.auto.1.1.1.0 ∙ part-long _ _ A.upto refl)) in (
+    (c.image_in-told.auto.words ∙ part-long _ _ A.upto refl)
+    (c.image_in-told.auto.bytes ∙ part-long _ _ A.upto refl)) in (
       I.room,
       list-has-room l a.image.now a.signs.now a.list.now a.count.now _ o _
           H.record_refusal-early.ensures H.if-early-ne0.false _ I,
@@ -124,6 +124,6 @@ returns c =
     image-accepted l a.image.now a.signs.now a.list.now a.count.now _ o _
     H.record_refusal-early.ensures H.if-early-ne0.false _
     (answered-longer _ _ _ A _ _ _ _ _ c.image_in-told.ensures _ _
-    (c.image_in-told.auto.1.1.0 ∙ part-long _ _ A.upto refl)
-    (c.image_in-told.auto.1.1.1.0 ∙ part-long _ _ A.upto refl))
+    (c.image_in-told.auto.words ∙ part-long _ _ A.upto refl)
+    (c.image_in-told.auto.bytes ∙ part-long _ _ A.upto refl))
     c.if-told-ne0.false _ _ _ c.copy_words.ensures c.copy_bytes.ensures c.copy_list.ensures

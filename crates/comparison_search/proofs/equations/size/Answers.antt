@@ -10,7 +10,7 @@ use Rattle.comparison_search.proofs.equations.size.Goals as goal
 
 -- where the lemmas below stand
 abbrev Start : Type 0
-Start = lts.Start reads.Pre reads.Post tie.handed_clauses
+Start = lts.Start reads.Pre reads.Post
 
 fits : (c : Start) → c.args.w < 2 ^ 64
 fits c = omega (arith, c.ranges.w)

@@ -23,5 +23,5 @@ pub returns : goal.returns
 returns c =
     let A = c.requires in
     answered-longer _ _ _ A _ _ _ _ _ c.image_in-told.ensures _ _
-    (c.image_in-told.auto.1.1.0 ∙ part-long _ _ A.upto refl)
-    (c.image_in-told.auto.1.1.1.0 ∙ part-long _ _ A.upto refl)
+    (c.image_in-told.auto.words ∙ part-long _ _ A.upto refl)
+    (c.image_in-told.auto.bytes ∙ part-long _ _ A.upto refl)

@@ -46,7 +46,7 @@ shape_of-words c =
 
 pub shape_of-bytes : goal.shape_of-bytes
 shape_of-bytes c =
-    c.sign_bytes.auto.1.1.1.0 ∙ tracked-codes _ _
+    c.sign_bytes.auto.signs ∙ tracked-codes _ _
     c.run_rule-end.ensures.tracking
     ∙ ap length c.copy_record.ensures.0 ∙ sym c.requires.words_len.1
 

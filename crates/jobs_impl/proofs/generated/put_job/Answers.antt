@@ -17,7 +17,7 @@ pub loop-left-preserved : goal.loop-left-preserved
 loop-left-preserved c =
     line-written c.args.n c.args.count c.args.seed c.requires.0 c.requires.1 _ _ _ _ _ _
     c.loop-left.invariant c.loop-left-test.true _ c.draw-s.ensures _ c.drawn_step.ensures _ _
-    c.put_step-at.ensures c.put_step-at.auto.1.1.0
+    c.put_step-at.ensures c.put_step-at.auto.out
 
 pub returns : goal.returns
 returns c =

@@ -20,7 +20,7 @@ use Rattle.jobs_impl.proofs.scanning.read_block.Goals.{else-row-count, then-row-
 
 -- where the lemmas below stand
 abbrev AfterStepOfStep : Type 0
-AfterStepOfStep = lts.After-step_of tie.the-claims reads.Pre reads.Post goal.the-invariant-loop-i goal.the-decreases-loop-i tie.handed_clauses
+AfterStepOfStep = lts.After-step_of tie.the-claims reads.Pre reads.Post goal.the-invariant-loop-i goal.the-decreases-loop-i
 
 pub loop-i-init : goal.loop-i-init
 unfolding fed_bytes

@@ -28,7 +28,7 @@ loop-k-preserved c =
       search rules,
       one_line (result_in c.args.answers.now) _ _ _ c.requires.2 c.print_result_names-at.ensures c.loop-k.k
           (omega (arith, c.loop-k-test.true, c.requires.0)) _ _ c.loop-k.invariant.1 _ _ c.print_result-at.ensures,
-      c.print_result-at.auto.1.1.1.1.1.0 ∙ c.loop-k.invariant.2,
+      c.print_result-at.auto.out ∙ c.loop-k.invariant.2,
     )
 
 pub returns : goal.returns

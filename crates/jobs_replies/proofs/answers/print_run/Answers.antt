@@ -32,7 +32,7 @@ pub print_results-at-requires : goal.print_results-at-requires
 print_results-at-requires c =
     let R = c.before.before.before.before.before.before.before.before in
     let F = (begun R).requires in
-    (F.few, omega (arith, F.kept, R.run-used.auto.1.1.1.1.1.0), omega (arith, F.room))
+    (F.few, omega (arith, F.kept, R.run-used.auto.answers), omega (arith, F.room))
 
 pub print_record-requires : goal.print_record-requires
 print_record-requires c =

@@ -56,4 +56,4 @@ returns c =
     (turned-by-calls (held_record (record_in c.args.neighbours.now c.args.codes.now))
     c.args.a c.args.b _ _ _ c.reach_word-to_a.ensures c.reach_word-to_b.ensures
     c.reach_minus.ensures c.reach_minus-2.ensures c.turned_word-turned.ensures)
-    c.join_sets.auto.0 c.join_sets.ensures c.put_before.ensures
+    c.join_sets.auto.neighbours c.join_sets.ensures c.put_before.ensures

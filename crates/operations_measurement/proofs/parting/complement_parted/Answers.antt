@@ -18,7 +18,7 @@ compose-first-requires c =
 
 pub bounds-codes-q-2 : goal.bounds-codes-q-2
 bounds-codes-q-2 c =
-    subst (λ m. c.args.q < m) (sym c.complement_away.auto.1.0)
+    subst (λ m. c.args.q < m) (sym c.complement_away.auto.codes)
     (unrefused-place _ _ c.requires.0 _ c.requires.1)
 
 pub returns : goal.returns

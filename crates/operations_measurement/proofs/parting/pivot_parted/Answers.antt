@@ -40,14 +40,14 @@ join_turning-requires c =
 
 pub bounds-codes-q-2 : goal.bounds-codes-q-2
 bounds-codes-q-2 c =
-    subst (λ m. c.args.q < m) (sym c.join_turning.auto.1.0)
+    subst (λ m. c.args.q < m) (sym c.join_turning.auto.codes)
     (unrefused-place _ _ c.requires.unrefused _ c.requires.q_in_bounds.0)
 
 pub bounds-codes-k-2 : goal.bounds-codes-k-2
 bounds-codes-k-2 c =
     subst (λ m. c.args.k < m)
     (sym (length-set c.join_turning.new.codes c.args.q c.compose-at_q.result
-    ∙ c.join_turning.auto.1.0))
+    ∙ c.join_turning.auto.codes))
     (unrefused-place _ _ c.requires.unrefused _ c.requires.q_in_bounds.1)
 
 pub flip-requires : goal.flip-requires

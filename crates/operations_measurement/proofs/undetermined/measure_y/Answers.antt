@@ -12,4 +12,4 @@ returns c =
     
     complement-measured _ _ start.0 c.args.q start.1 _ _ c.complement_parted-near.ensures.codes_after c.complement_parted-near.ensures.value
     c.args.outcome _ _
-    c.complement_parted-near.auto.0 c.complement_parted-near.ensures.same_graph c.turn_parted.ensures
+    c.complement_parted-near.auto.neighbours c.complement_parted-near.ensures.same_graph c.turn_parted.ensures

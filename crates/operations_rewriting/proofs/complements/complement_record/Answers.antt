@@ -19,7 +19,7 @@ compose-first-requires c =
 
 pub bounds-codes-a-2 : goal.bounds-codes-a-2
 bounds-codes-a-2 c =
-    subst (λ m. c.args.a < m) (sym c.complement_around.auto.1.0)
+    subst (λ m. c.args.a < m) (sym c.complement_around.auto.codes)
     (unrefused-place _ _ c.requires.0 _ c.requires.1)
 
 pub returns : goal.returns
@@ -27,4 +27,4 @@ returns c =
     let known = c.complement_around in
     complemented _ _ c.requires.0 c.args.a c.requires.1 _ _
     (recoded-all _ _ c.requires.0 c.args.a c.requires.1 13 6 _ _ c.compose-first.ensures.0
-    c.complement_around.ensures.codes_after) known.auto.0 c.complement_around.ensures.same_graph
+    c.complement_around.ensures.codes_after) c.complement_around.auto.neighbours c.complement_around.ensures.same_graph

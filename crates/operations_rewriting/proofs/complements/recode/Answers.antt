@@ -18,7 +18,7 @@ put_before-requires c = record { codes_len_bound = unrefused-codes _ _ c.require
 
 pub bounds-codes-a-2 : goal.bounds-codes-a-2
 bounds-codes-a-2 c =
-    subst (λ m. c.args.a < m) (sym c.put_before.auto.0)
+    subst (λ m. c.args.a < m) (sym c.put_before.auto.codes)
     (unrefused-place _ _ c.requires.unrefused.0 _ c.requires.unrefused.1)
 
 pub returns : goal.returns

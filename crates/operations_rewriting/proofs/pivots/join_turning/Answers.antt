@@ -8,13 +8,13 @@ turn_rows-requires c = let whole = first-ready _ _ c.requires.unrefused _ _ c.re
 pub turn_rows-requires-2 : goal.turn_rows-requires-2
 turn_rows-requires-2 c =
     let whole = second-ready _ _ c.requires.unrefused _ _ c.requires.to_a_bound.0 c.requires.to_a_bound.1
-    c.turn_rows.new.neighbours _ c.turn_rows.auto.0 c.turn_rows.ensures.codes_after in record { neighbours_len_bound = whole.0; by_index = whole.1.0; rows_bound = whole.1.1 }
+    c.turn_rows.new.neighbours _ c.turn_rows.auto.neighbours c.turn_rows.ensures.codes_after in record { neighbours_len_bound = whole.0; by_index = whole.1.0; rows_bound = whole.1.1 }
 
 pub turn_rows-requires-3 : goal.turn_rows-requires-3
 turn_rows-requires-3 c =
     let whole = third-ready _ _ c.requires.unrefused _ _ c.requires.to_a_bound.0 c.requires.to_a_bound.1
-    c.turn_rows.new.neighbours _ c.turn_rows.auto.0 c.turn_rows.ensures.codes_after
-    c.turn_rows-2.new.neighbours _ c.turn_rows-2.auto.0 c.turn_rows-2.ensures.codes_after in record { neighbours_len_bound = whole.0; by_index = whole.1.0; rows_bound = whole.1.1 }
+    c.turn_rows.new.neighbours _ c.turn_rows.auto.neighbours c.turn_rows.ensures.codes_after
+    c.turn_rows-2.new.neighbours _ c.turn_rows-2.auto.neighbours c.turn_rows-2.ensures.codes_after in record { neighbours_len_bound = whole.0; by_index = whole.1.0; rows_bound = whole.1.1 }
 
 pub returns : goal.returns
 returns c =

@@ -43,14 +43,14 @@ join_turning-requires c =
 
 pub bounds-codes-j-2 : goal.bounds-codes-j-2
 bounds-codes-j-2 c =
-    subst (λ m. c.args.j < m) (sym c.join_turning.auto.1.0)
+    subst (λ m. c.args.j < m) (sym c.join_turning.auto.codes)
     (unrefused-place _ _ c.requires.unrefused _ c.requires.j_in_bounds.0)
 
 pub bounds-codes-k-2 : goal.bounds-codes-k-2
 bounds-codes-k-2 c =
     subst (λ m. c.args.k < m)
     (sym (length-set c.join_turning.new.codes c.args.j c.compose-at_j.result
-    ∙ c.join_turning.auto.1.0))
+    ∙ c.join_turning.auto.codes))
     (unrefused-place _ _ c.requires.unrefused _ c.requires.j_in_bounds.1)
 
 pub returns : goal.returns
@@ -62,6 +62,6 @@ returns c =
     (both-recoded _ _ c.requires.unrefused c.args.j c.args.k c.requires.j_in_bounds.0 c.requires.j_in_bounds.1 _ _
     c.single.ensures c.single-2.ensures _ _ _
     c.compose-at_j.ensures.0 c.compose-at_k.ensures.0 c.join_turning.ensures.codes_after)
-    known.auto.0
+    c.join_turning.auto.neighbours
     (pivot-by-sets words (unrefused-simple _ _ c.requires.unrefused) c.args.j c.args.k _ _ c.requires.k_value
     c.single.ensures c.single-2.ensures c.join_turning.new.neighbours c.join_turning.ensures.same_graph)

@@ -14,7 +14,7 @@ write_word-end-requires c =
 pub loop-w-preserved : goal.loop-w-preserved
 loop-w-preserved c =
     word-written c.loop-w.invariant c.loop-w-test.true c.write_word-end.ensures
-    c.write_word-end.auto.1.1.0
+    c.write_word-end.auto.list
 
 pub returns : goal.returns
 returns c = all-written c.loop-w.invariant c.loop-w-test.false

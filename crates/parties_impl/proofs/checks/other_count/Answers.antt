@@ -16,7 +16,7 @@ use Rattle.parties_impl.proofs.checks.other_count.Goals as goal
 
 -- where the lemmas below stand
 abbrev AfterWordAtN : Type 0
-AfterWordAtN = lts.After-word_at tie.the-claims reads.Pre reads.Post goal.the-invariant-loop-i goal.the-decreases-loop-i tie.handed_clauses
+AfterWordAtN = lts.After-word_at tie.the-claims reads.Pre reads.Post goal.the-invariant-loop-i goal.the-decreases-loop-i
 
 pub returns-then-party-gt1 : goal.returns-then-party-gt1
 returns-then-party-gt1 c =

@@ -13,7 +13,7 @@ use Rattle.store_impl.proofs.checks.named_twice.Goals as goal
 
 -- where the lemmas below stand
 abbrev AfterWordAtInLoopI : Type 0
-AfterWordAtInLoopI = lts.After-word_at2 tie.the-claims reads.Pre reads.Post goal.the-invariant-loop-i goal.the-decreases-loop-i tie.handed_clauses
+AfterWordAtInLoopI = lts.After-word_at2 tie.the-claims reads.Pre reads.Post goal.the-invariant-loop-i goal.the-decreases-loop-i
 
 pub loop-i-init : goal.loop-i-init
 loop-i-init c = (omega arith, none_yet _)

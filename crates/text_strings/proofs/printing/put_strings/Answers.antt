@@ -16,7 +16,7 @@ put_string-at-requires c =
 pub loop-j-preserved : goal.loop-j-preserved
 loop-j-preserved c =
     one_line _ _ _ c.requires.out_len _ _ _ c.loop-j.invariant c.loop-j-test.true c.put_string-at.ensures
-    c.put_string-at.auto.1.1.1.1.1.0
+    c.put_string-at.auto.out
 
 pub returns : goal.returns
 returns c =
