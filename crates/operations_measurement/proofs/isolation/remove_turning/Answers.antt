@@ -50,7 +50,10 @@ pub bounds-twos-code : goal.bounds-twos-code
 bounds-twos-code c = small c.before.before
 
 pub bounds-codes-i-in-loop-rest : goal.bounds-codes-i-in-loop-rest
-bounds-codes-i-in-loop-rest c = bounds-codes-i c
+bounds-codes-i-in-loop-rest c =
+    next-in _ _ _ _ _ c.loop-rest.invariant.1 (unrefused-codes _ _ c.requires.0).0 c.loop-rest-test.true
+    _
+    c.smallest-i.ensures.0
 
 pub offset_bounds-neighbours-i : goal.offset_bounds-neighbours-i
 offset_bounds-neighbours-i c =

@@ -37,7 +37,9 @@ pub bounds-turned-code : goal.bounds-turned-code
 bounds-turned-code c = small c.before.before
 
 pub bounds-codes-i-in-loop-rest : goal.bounds-codes-i-in-loop-rest
-bounds-codes-i-in-loop-rest c = bounds-codes-i c
+bounds-codes-i-in-loop-rest c =
+    next-in _ _ _ _ _ c.loop-rest.invariant c.requires.codes_len_bound.0 c.loop-rest-test.true _
+    c.smallest-i.ensures.0
 
 pub without_smallest-rest-requires : goal.without_smallest-rest-requires
 without_smallest-rest-requires c = c.loop-rest-test.true

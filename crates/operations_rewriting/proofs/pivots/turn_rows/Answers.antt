@@ -46,7 +46,9 @@ pub bounds-twos-code : goal.bounds-twos-code
 bounds-twos-code c = small c.before.before
 
 pub bounds-codes-i-in-loop-rest : goal.bounds-codes-i-in-loop-rest
-bounds-codes-i-in-loop-rest c = bounds-codes-i c
+bounds-codes-i-in-loop-rest c =
+    next-in _ _ _ _ _ c.loop-rest.invariant.1 (codes-short c.requires.neighbours_len_bound) c.loop-rest-test.true _
+    c.smallest-i.ensures.0
 
 pub offset_bounds-neighbours-i : goal.offset_bounds-neighbours-i
 offset_bounds-neighbours-i c =
@@ -70,7 +72,9 @@ offset_bounds-neighbours-i-in-loop-rest c =
     )
 
 pub bounds-neighbours-i-in-loop-rest : goal.bounds-neighbours-i-in-loop-rest
-bounds-neighbours-i-in-loop-rest c = bounds-neighbours-i c
+bounds-neighbours-i-in-loop-rest c =
+    next-in _ _ _ _ _ c.loop-rest.invariant.0 c.requires.neighbours_len_bound.0 c.loop-rest-test.true _
+    c.smallest-i.ensures.0
 
 pub without_smallest-rest-requires : goal.without_smallest-rest-requires
 without_smallest-rest-requires c = c.loop-rest-test.true
