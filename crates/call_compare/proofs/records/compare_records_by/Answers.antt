@@ -36,24 +36,32 @@ slice_bounds-words1-end E =
 
 pub compare_copies-requires : goal.compare_copies-requires
 compare_copies-requires c =
-    let a = c.args in
+    let E = c.before.before.before.before.before.before.before.before in
+    
+    
+    
+    
+    
+    
+    
+    let a = E.args in
     let l : LentRecord = lent_record a.n1 a.neighbours1.now a.codes1.now in
     let m : LentRecord = lent_record a.n2 a.neighbours2.now a.codes2.now in
-    let n-few = slice_bounds-words1-end c.before.before.before.before.before.before.before.before in record { unrefused = first-unrefused a.limited l m a.choice.now a.list.now (sym c.pair_count.ensures ∙ c.if-pair_count.false)
-          (ap₂ ◌||◌ c.other_than.ensures c.other_than-2.ensures) c.record_refusal-first.ensures
-          c.record_refusal-second.ensures c.earlier-early.ensures c.if-early-ne0.false; unrefused_2 = second-unrefused a.limited l m a.choice.now a.list.now (sym c.pair_count.ensures ∙ c.if-pair_count.false)
-            (ap₂ ◌||◌ c.other_than.ensures c.other_than-2.ensures) c.record_refusal-first.ensures
-            c.record_refusal-second.ensures c.earlier-early.ensures c.if-early-ne0.false; words1_len = (
+    let n-few = slice_bounds-words1-end E in record { unrefused = first-unrefused a.limited l m a.choice.now a.list.now (sym E.pair_count.ensures ∙ E.if-pair_count.false)
+          (ap₂ ◌||◌ E.other_than.ensures E.other_than-2.ensures) E.record_refusal-first.ensures
+          E.record_refusal-second.ensures E.earlier-early.ensures E.if-early-ne0.false; unrefused_2 = second-unrefused a.limited l m a.choice.now a.list.now (sym E.pair_count.ensures ∙ E.if-pair_count.false)
+            (ap₂ ◌||◌ E.other_than.ensures E.other_than-2.ensures) E.record_refusal-first.ensures
+            E.record_refusal-second.ensures E.earlier-early.ensures E.if-early-ne0.false; words1_len = (
           part-long _ _ n-few refl,
           part-long _ _ n-few refl,
           part-long _ _ n-few refl,
           part-long _ _ n-few refl,
-          choice-fits a.limited l m a.choice.now a.list.now (sym c.pair_count.ensures ∙ c.if-pair_count.false)
-              (ap₂ ◌||◌ c.other_than.ensures c.other_than-2.ensures) c.record_refusal-first.ensures
-              c.record_refusal-second.ensures c.earlier-early.ensures c.if-early-ne0.false,
-          list-fits a.limited l m a.choice.now a.list.now (sym c.pair_count.ensures ∙ c.if-pair_count.false)
-              (ap₂ ◌||◌ c.other_than.ensures c.other_than-2.ensures) c.record_refusal-first.ensures
-              c.record_refusal-second.ensures c.earlier-early.ensures c.if-early-ne0.false,
+          choice-fits a.limited l m a.choice.now a.list.now (sym E.pair_count.ensures ∙ E.if-pair_count.false)
+              (ap₂ ◌||◌ E.other_than.ensures E.other_than-2.ensures) E.record_refusal-first.ensures
+              E.record_refusal-second.ensures E.earlier-early.ensures E.if-early-ne0.false,
+          list-fits a.limited l m a.choice.now a.list.now (sym E.pair_count.ensures ∙ E.if-pair_count.false)
+              (ap₂ ◌||◌ E.other_than.ensures E.other_than-2.ensures) E.record_refusal-first.ensures
+              E.record_refusal-second.ensures E.earlier-early.ensures E.if-early-ne0.false,
         ) }
 
 pub returns : goal.returns

@@ -23,27 +23,30 @@ eight_codes-x-requires c =
 -- the word so far, and eight places left
 pub overflow_mul-all : goal.overflow_mul-all
 overflow_mul-all c =
-    let L = c.loop-i in
-    omega (arith, room-for-eight _ _ _ _ L.invariant.2 (overflow_sub-i c.before.before) c.requires.0)
+    let I = c.before.before in
+    let L = I.loop-i in
+    omega (arith, room-for-eight _ _ _ _ L.invariant.2 (overflow_sub-i I) I.requires.0)
 
 pub overflow_add-all : goal.overflow_add-all
 overflow_add-all c =
-    let L = c.loop-i in
+    let I = c.before.before.before in
+    let L = I.loop-i in
     omega (
       arith,
-      room-for-eight _ _ _ _ L.invariant.2 (overflow_sub-i c.before.before.before) c.requires.0,
+      room-for-eight _ _ _ _ L.invariant.2 (overflow_sub-i I) I.requires.0,
       c.marked_bytes.ensures.0,
     )
 
 pub loop-i-preserved : goal.loop-i-preserved
 loop-i-preserved c =
-    let L = c.loop-i in
+    let I = c.before.before.before in
+    let L = I.loop-i in
     
     let M = c.marked_bytes.ensures in (
-      omega (arith, L.invariant.0, overflow_sub-i c.before.before.before),
+      omega (arith, L.invariant.0, overflow_sub-i I),
       omega (arith, L.invariant.1),
-      from-eight _ _ _ _ L.invariant.2 (overflow_sub-i c.before.before.before) _ M.0
-          (λ k l. M.1 k l ∙ packed-suspects _ _ _ c.eight_codes-x.ensures c.requires.1 k l),
+      from-eight _ _ _ _ L.invariant.2 (overflow_sub-i I) _ M.0
+          (λ k l. M.1 k l ∙ packed-suspects _ _ _ c.eight_codes-x.ensures I.requires.1 k l),
     )
 
 pub returns : goal.returns

@@ -4,7 +4,7 @@ use borrow.Author.Rules.{rules}
 use Rattle.operations_gates.proofs.unsettled.cz_unsettled.Goals as goal
 
 pub make_ready-requires : goal.make_ready-requires
-make_ready-requires c = let whole = search rules in record { unrefused = whole.0; a_in_bounds = whole.1 }
+make_ready-requires c = search rules
 
 pub cz_ready-requires : goal.cz_ready-requires
 cz_ready-requires c =

@@ -4,7 +4,7 @@ use borrow.Author.Rules.{rules}
 use Rattle.operations_gates.proofs.unsettled.make_ready.Goals as goal
 
 pub is_ready-requires : goal.is_ready-requires
-is_ready-requires c = let whole = search rules in record { unrefused = whole.0; a_in_bounds = whole.1 }
+is_ready-requires c = search rules
 
 pub shape_of-neighbours-then-is_ready : goal.shape_of-neighbours-then-is_ready
 shape_of-neighbours-then-is_ready c = search rules
@@ -18,10 +18,10 @@ returns-then-is_ready c =
       c.if-is_ready.true }
 
 pub uncross_both-requires : goal.uncross_both-requires
-uncross_both-requires c = let whole = search rules in record { unrefused = whole.0; a_in_bounds = whole.1 }
+uncross_both-requires c = search rules
 
 pub part_both-requires : goal.part_both-requires
-part_both-requires c = let whole = search rules in record { unrefused = whole.0; a_in_bounds = whole.1 }
+part_both-requires c = search rules
 
 pub shape_of-neighbours : goal.shape_of-neighbours
 shape_of-neighbours c = search rules

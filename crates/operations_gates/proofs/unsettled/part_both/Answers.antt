@@ -5,7 +5,7 @@ use borrow.Author.Rules.{rules}
 use Rattle.operations_gates.proofs.unsettled.part_both.Goals as goal
 
 pub is_ready-requires : goal.is_ready-requires
-is_ready-requires c = let whole = search rules in record { unrefused = whole.0; a_in_bounds = whole.1 }
+is_ready-requires c = search rules
 
 pub shape_of-neighbours-then-is_ready : goal.shape_of-neighbours-then-is_ready
 shape_of-neighbours-then-is_ready c = search rules
@@ -19,10 +19,10 @@ returns-then-is_ready c =
       c.if-is_ready.true }
 
 pub part-requires : goal.part-requires
-part-requires c = let whole = search rules in record { unrefused = whole.0; a_in_bounds = whole.1 }
+part-requires c = search rules
 
 pub is_ready-requires-2 : goal.is_ready-requires-2
-is_ready-requires-2 c = let whole = search rules in record { unrefused = whole.0; a_in_bounds = whole.1 }
+is_ready-requires-2 c = search rules
 
 pub shape_of-neighbours-then-is_ready-2 : goal.shape_of-neighbours-then-is_ready-2
 shape_of-neighbours-then-is_ready-2 c = search rules
