@@ -29,10 +29,10 @@ loop-i-preserved c =
     let I = c.before.before.before.before in
     let L = I.loop-i in
     let P = c.eight_codes-x.ensures in (
-      omega (arith, L.invariant.0, overflow_sub-i I),
+      omega (arith, L.invariant.0, overflow_sub-i (record { before = I; type_inv = record { codes = I.shared_slice_known-1.given } })),
       omega (arith, L.invariant.1),
-      below_next _ _ _ _ P c.high_bits-high-in-loop-i.ensures L.high (below_at _ (omega (arith, overflow_sub-i I)) L.invariant.2),
-      rows_next _ _ _ _ P c.marks.ensures L.rows (rows_at _ (omega (arith, overflow_sub-i I)) L.invariant.3),
+      below_next _ _ _ _ P c.high_bits-high-in-loop-i.ensures L.high (below_at _ (omega (arith, overflow_sub-i (record { before = I; type_inv = record { codes = I.shared_slice_known-1.given } }))) L.invariant.2),
+      rows_next _ _ _ _ P c.marks.ensures L.rows (rows_at _ (omega (arith, overflow_sub-i (record { before = I; type_inv = record { codes = I.shared_slice_known-1.given } }))) L.invariant.3),
     )
 
 pub returns : goal.returns

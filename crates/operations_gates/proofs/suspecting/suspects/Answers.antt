@@ -25,7 +25,7 @@ pub overflow_mul-all : goal.overflow_mul-all
 overflow_mul-all c =
     let I = c.before.before in
     let L = I.loop-i in
-    omega (arith, room-for-eight _ _ _ _ L.invariant.2 (overflow_sub-i I) I.requires.0)
+    omega (arith, room-for-eight _ _ _ _ L.invariant.2 (overflow_sub-i (record { before = I; type_inv = record { codes = I.shared_slice_known-1.given } })) I.requires.0)
 
 pub overflow_add-all : goal.overflow_add-all
 overflow_add-all c =
@@ -33,7 +33,7 @@ overflow_add-all c =
     let L = I.loop-i in
     omega (
       arith,
-      room-for-eight _ _ _ _ L.invariant.2 (overflow_sub-i I) I.requires.0,
+      room-for-eight _ _ _ _ L.invariant.2 (overflow_sub-i (record { before = I; type_inv = record { codes = I.shared_slice_known-1.given } })) I.requires.0,
       c.marked_bytes.ensures.0,
     )
 
@@ -41,11 +41,10 @@ pub loop-i-preserved : goal.loop-i-preserved
 loop-i-preserved c =
     let I = c.before.before.before in
     let L = I.loop-i in
-    
     let M = c.marked_bytes.ensures in (
-      omega (arith, L.invariant.0, overflow_sub-i I),
+      omega (arith, L.invariant.0, overflow_sub-i (record { before = I; type_inv = record { codes = I.shared_slice_known-1.given } })),
       omega (arith, L.invariant.1),
-      from-eight _ _ _ _ L.invariant.2 (overflow_sub-i I) _ M.0
+      from-eight _ _ _ _ L.invariant.2 (overflow_sub-i (record { before = I; type_inv = record { codes = I.shared_slice_known-1.given } })) _ M.0
           (λ k l. M.1 k l ∙ packed-suspects _ _ _ c.eight_codes-x.ensures I.requires.1 k l),
     )
 

@@ -15,7 +15,6 @@ loop-i-init c = (c.requires.2, le_refl _, from_start _ _)
 pub overflow_mul-all : goal.overflow_mul-all
 overflow_mul-all c =
     let L = c.loop-i in
-    
     omega (arith, from-small _ _ L.all L.i L.invariant.2 (omega (arith, c.loop-i-test.true)) c.requires.0)
 
 pub bounds-codes-i : goal.bounds-codes-i
@@ -28,7 +27,6 @@ suspicious-requires c = c.requires.1 _
 pub overflow_add-all : goal.overflow_add-all
 overflow_add-all c =
     let L = c.loop-i in
-    
     omega (
       arith,
       from-small _ _ L.all L.i L.invariant.2 (omega (arith, c.loop-i-test.true)) c.requires.0,
