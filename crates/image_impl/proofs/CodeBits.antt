@@ -46,7 +46,8 @@ module _ (codes : List ℕ) (f : Clifford → Bool) where
       bits_above j l = B j ∙ ap (λ b. ltb j q && b) (past j l) ∙ never (ltb j q)
         where
           never : (b : Bool) → (b && false) ≡ false
-          never b = elim b [ false ↦ refl | true ↦ refl ]
+          never false = refl
+          never true = refl
 
       pub bits-all : (j : ℕ) → bit w j ≡ f (codes_of codes j)
       bits-all j = elim (lt-or-ge j (length codes)) [

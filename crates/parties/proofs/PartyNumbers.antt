@@ -157,4 +157,4 @@ module _ (word g : ℕ) (u : UsedRecord) (H : Apart word u) where
       → measured_answer u.held pauli q b ≡ measured_answer (masked (in_party word g) u).held pauli q b
   masked-answer pauli q b own e =
       let M = measure-arguments u.held pauli q b (used_step_lem u (measurement_of pauli q b) e) in
-      answered-alike pauli q own M.below M.not_None b
+      answered-alike pauli q own M.below M.not_none b

@@ -30,7 +30,7 @@ abbrev lent : Start → UsedRecord
 lent S = used_record S.args.n S.args.neighbours.now S.args.codes.now S.args.used
 
 abbrev at : AfterUsedRefusalEarly → Start
-at E = E.before.before.before.before.before
+at E = E.before.before.before
 
 pub returns-then-early-ne0 : goal.returns-then-early-ne0
 returns-then-early-ne0 c =

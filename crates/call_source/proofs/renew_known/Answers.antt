@@ -33,7 +33,7 @@ abbrev lent : Start → UsedRecord
 lent S = used_record S.args.n S.args.neighbours.now S.args.codes.now S.args.used.now
 
 abbrev at : AfterKnownRefusalEarly → Start
-at E = E.before.before.before.before.before.before.before
+at E = E.before.before.before.before.before
 
 -- the number of the lines of the record and the code
 number : (E : AfterKnownRefusalEarly)

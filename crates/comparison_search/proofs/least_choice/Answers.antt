@@ -104,5 +104,5 @@ returns c =
           c.requires.setting.framed).within true
           L.result
           (chosen-works a.n (generators_in a.first.now) (generators_in a.second.now) a.frame c.requires.setting
-          (equations_in T.last.0) T.ensures
+          (equations_in T.new.table) T.ensures
           A.result.choice C (equations_in c.sign_table.new.table) U.ensures L.result L.ensures); empty_from_2 = c.wipe-2.ensures }

@@ -28,7 +28,7 @@ pub returns-then-not-fits : goal.returns-then-not-fits
 returns-then-not-fits c =
     let a = c.args in
     one-fails (fits_at (held_record (record_in a.neighbours.now a.codes.now)) a.y) _ _
-    c.fits2.ensures _ c.loop-j-test.true c.if-not-fits.true-raw
+    c.fits.ensures _ c.loop-j-test.true c.if-not-fits.true-raw
 
 pub loop-j-smaller : goal.loop-j-smaller
 loop-j-smaller c = omega (arith, c.loop-j-test.true)
@@ -39,7 +39,7 @@ loop-j-preserved c =
     let t = c.loop-j-test.true in (
       omega arith,
       one_more (fits_at (held_record (record_in a.neighbours.now a.codes.now)) a.y) _ _
-          c.fits2.ensures c.loop-j.invariant.1 c.if-not-fits.false-raw,
+          c.fits.ensures c.loop-j.invariant.1 c.if-not-fits.false-raw,
     )
 
 pub returns : goal.returns

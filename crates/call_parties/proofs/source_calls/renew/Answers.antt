@@ -26,7 +26,7 @@ abbrev lent : Start → UsedRecord
 lent S = used_record S.args.n S.args.neighbours.now S.args.codes.now S.args.used.now
 
 abbrev at : AfterPartyRefusalEarly → Start
-at E = E.before.before.before.before.before.before.before.before
+at E = E.before.before.before.before.before.before
 
 -- the number of the lines before 8
 number : (E : AfterPartyRefusalEarly) → let S = at E in

@@ -20,10 +20,8 @@ overflow_cast-at c = let few = c.smallest-q.ensures.1 in search rules
 -- src/lib.rt:30:9
 pub bounds-at-k : goal.bounds-at-k
 bounds-at-k c =
-    let M = c in
-    let L = M.before.before in
-    room L.before.args.component L.loop.at L.loop.k L.loop.rest L.loop.invariant
-    M.before.loop-test.true _ M.smallest.ensures.0
+    room c.args.component c.loop-rest.at c.loop-rest.k c.loop-rest.rest c.loop-rest.invariant
+    c.loop-rest-test.true _ c.smallest-q.ensures.0
 
 -- src/lib.rt:31:9
 pub overflow_add-k : goal.overflow_add-k
@@ -37,10 +35,8 @@ overflow_add-k c =
 -- src/lib.rt:32:9
 pub flip-rest-requires : goal.flip-rest-requires
 flip-rest-requires c =
-    let M = c in
-    let L = M.before.before in
-    place-below L.before.args.component L.loop.at L.loop.k L.loop.rest L.loop.invariant
-    M.before.loop-test.true _ M.smallest.ensures.0
+    place-below c.args.component c.loop-rest.at c.loop-rest.k c.loop-rest.rest c.loop-rest.invariant
+    c.loop-rest-test.true _ c.smallest-q.ensures.0
 
 -- src/lib.rt:28:5
 pub loop-rest-smaller : goal.loop-rest-smaller

@@ -8,7 +8,7 @@ use Rattle.comparison.specs.Parts.{part_above}
 use Rattle.stabilizer.proofs.Scanning.{found_at, found_nowhere}
 use Rattle.comparison_parts.proofs.Spreading.{Seen, is_large, large_is, seen-again, seen_more, seen_none}
 use Rattle.comparison_parts.proofs.sets.part_above.Goals as goal
-use Rattle.comparison_parts.proofs.sets.part_above.Goals.{else-not-has, then-not-has}
+use Rattle.comparison_parts.proofs.sets.part_above.Goals.{else-not-has, then-not-has+else-count-gt20}
 
 pub loop-q-init : goal.loop-q-init
 loop-q-init c = seen_none _ _
@@ -28,8 +28,8 @@ loop-q-preserved c =
     let n = length nb in
     let more = c.loop-q-test.true in
     elim c.if-not-has.branch [
-      then-not-has w ↦ seen_more n (graph_in nb) c.loop-q.seen c.loop-q.q c.loop-q.invariant more c.requires.simple w.part-component.result
-    w.count.result _ w.part-component.ensures w.count.ensures.0 (le-ltb 20 _ w.if-count-gt20.left) w.seen-is
+      then-not-has+else-count-gt20 w ↦ seen_more n (graph_in nb) c.loop-q.seen c.loop-q.q c.loop-q.invariant more c.requires.simple w.part-component.result
+    w.count.result _ w.part-component.ensures w.count.ensures.0 (le-ltb 20 _ w.if-count-gt20.false) w.seen-is
     | else-not-has w ↦ subst (λ s. Seen n (graph_in nb) s (c.loop-q.q + 1)) (sym w.seen-is)
     (seen-again n (graph_in nb) c.loop-q.seen c.loop-q.q c.loop-q.invariant more
     (sym c.has.ensures ∙ w.if-not-has.false))

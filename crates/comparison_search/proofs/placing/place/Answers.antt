@@ -4,12 +4,8 @@ use Rattle.comparison_search.proofs.placing.place.Goals as goal
 
 pub returns : goal.returns
 returns c =
-    let d = c in
-    
-    
-    
     let a = c.args in
     placed_by c.args.w a.q a.four c.put_bit-a.result c.put_bit-b.result c.put_bit-c.result
-    d.put-bit4.result c.has.ensures c.put_bit-a.ensures c.has-2.ensures
-    c.put_bit-b.ensures c.has-3.ensures c.put_bit-c.ensures d.before.has4.ensures
-    d.put-bit4.ensures
+    c.put_bit-d.result c.has.ensures c.put_bit-a.ensures c.has-2.ensures
+    c.put_bit-b.ensures c.has-3.ensures c.put_bit-c.ensures c.has-4.ensures
+    c.put_bit-d.ensures

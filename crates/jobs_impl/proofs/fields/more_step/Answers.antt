@@ -13,7 +13,7 @@ use Rattle.jobs_impl.proofs.fields.more_step.Goals as goal
 
 -- where the lemmas below stand
 abbrev ThenV : Type 0
-ThenV = lts.Then2 reads.Pre reads.Post
+ThenV = lts.Then2 tie.the-claims reads.Pre reads.Post
 
 -- the number has fewer than three digits
 short : (c : ThenV) → c.args.s.number < 100

@@ -8,9 +8,6 @@ use Rattle.pauli.specs.Pauli.{anticommute, i⁰, row}
 use Rattle.words.proofs.Searching.{first_found, none_found, none_here, none_yet}
 use Rattle.parity_impl.proofs.generators.first_against.Goals as goal
 
-abbrev clashing : List ℕ → List ℕ → ℕ → ℕ → ℕ → Bool
-clashing zs xs z x i = anticommute 64 (row i⁰ (get_or zs i 0) (get_or xs i 0)) (row i⁰ z x)
-
 pub loop-j-init : goal.loop-j-init
 loop-j-init c = none_yet _
 

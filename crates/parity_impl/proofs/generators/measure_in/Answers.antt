@@ -37,10 +37,10 @@ expand_into-requires c =
 
 -- where the generators are expanded
 abbrev at : AfterExpandInto → Start
-at E = E.before.before.before.before.before.before.before.before.before.before.before
+at E = E.before.before.before.before.before.before.before.before.before
 
 abbrev of : AfterFirstAgainstG → AfterExpandInto
-of F = F.before.before.before.before.before.before.before.before.before
+of F = F.before.before.before.before.before.before.before
 
 abbrev by : AfterChange → AfterFirstAgainstG
 by C = C.before.before.before.before

@@ -4,5 +4,5 @@ use Rattle.parties_impl.proofs.masks.merge_used.Goals as goal
 
 pub returns : goal.returns
 returns c =
-    either-word c.args.own c.args.new c.args.used _ c.fits.new.fits c.fits.used.fits
+    either-word c.args.own c.args.new c.args.used _ c.ranges.new.fits c.ranges.used.fits
     c.others.ensures

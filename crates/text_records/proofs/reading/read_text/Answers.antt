@@ -7,6 +7,7 @@ use lib.ListN.{length}
 use borrow.Author.Tests.{not-false, not-true}
 use Rattle.text_records.proofs.Following.{Followed, all-followed, line-missing, names-missing, next-inside, none-followed, one-followed, rest-is, told_none}
 use Rattle.text.specs.RecordTexts.{from_line}
+use Rattle.text_records.specs.internal.Reads.{LineTold}
 use Rattle.text_records.proofs.reading.read_text.Lts as lts
 use Rattle.text_records.proofs.reading.read_text.Reads as reads
 use Rattle.text_records.proofs.reading.read_text.Tie as tie
