@@ -4,7 +4,7 @@ use Rattle.jobs.proofs.ParallelLaws.{steps-long}
 use Rattle.jobs.specs.Parallel.{steps_in}
 use Rattle.call_run.proofs.LastRecord.{first-ready}
 use Rattle.operations.specs.Used.{used_record}
-use Rattle.call_run.proofs.Blocks.{at-end, block-ready, run-all, run-block-more, run_none}
+use Rattle.call_run.proofs.Blocks.{at-end, block-ready, filled-inside, run-all, run-block-more, run_none}
 use Rattle.call_run.proofs.numbers.run_numbers.Goals as goal
 
 pub loop-k-init : goal.loop-k-init
@@ -44,7 +44,10 @@ loop-k-preserved c =
           (omega (arith, c.requires.0, steps-long a.ops.now a.a.now a.b.now a.value.now)) c.requires.1
           c.block_at-block.result c.block_at-block.ensures _ _ _ _ l.invariant.ran _ _ _ _ c.run_block-word.ensures;
       ready = block-ready (used_record a.n l.neighbours l.codes l.word) l.k c.block_length-m.result
-          c.block_at-block.result ? _ _ _ _ _ c.run_block-word.ensures l.invariant.ready;
+          c.block_at-block.result (filled-inside l.k _ _ (steps_in a.ops.now a.a.now a.b.now a.value.now)
+          c.block_at-block.ensures
+          (omega (arith, m.1, c.loop-k-test.true, c.requires.0, steps-long a.ops.now a.a.now a.b.now a.value.now)))
+          _ _ _ _ _ c.run_block-word.ensures l.invariant.ready;
     }
 
 pub settle_last-requires : goal.settle_last-requires
