@@ -31,7 +31,7 @@ run_numbers-next-requires c =
       outcomes = a.outcomes.now;
       determined = a.determined.now;
     }) _ _ c.one_other_than-asked.ensures c.one_other_than-answered.ensures _ c.run_refusal-early.ensures
-        c.if-early-ne0.false in
+    c.if-early-ne0.false in
     (le_refl _, le_of_eq (sym R.refusals), R.asked, R.held)
 
 pub unpack-requires : goal.unpack-requires
@@ -46,7 +46,7 @@ unpack-requires c =
       outcomes = a.outcomes.now;
       determined = a.determined.now;
     }) _ _ c.one_other_than-asked.ensures c.one_other_than-answered.ensures _ c.run_refusal-early.ensures
-        c.if-early-ne0.false in
+    c.if-early-ne0.false in
     let long = sym (c.run_numbers-next.auto.answers ∙ R.refusals) in
     (R.outcomes ∙ long, R.determined ∙ long)
 

@@ -20,8 +20,7 @@ loop-k-init c =
 pub turn-word-requires : goal.turn-word-requires
 turn-word-requires c =
     let a = c.args in
-    let l = c.loop-k in
-    (
+    let l = c.loop-k in (
       omega (arith, c.requires.0, l.auto.answers),
       subst (λ m. ReadyAt (a.at + m) l.answers (used_record a.n l.neighbours l.codes l.word))
           (length-take-le l.k a.steps.now l.invariant.count) (l.invariant.ran.ready c.requires.1),

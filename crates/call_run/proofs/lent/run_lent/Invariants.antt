@@ -8,7 +8,7 @@ abbrev pub invariant-loop-k : goal.invariant-loop-k
 invariant-loop-k l = record {
   count : l.k ≤ length l.steps;
   ran : WaitingRun (used_record l.n l.fn.neighbours l.fn.codes l.used) (take l.k l.steps) l.at l.fn.answers
-      l.neighbours l.codes l.word l.answers
+      l.neighbours l.codes l.word l.answers;
 }
 
 abbrev pub decreases-loop-k : goal.decreases-loop-k

@@ -20,8 +20,7 @@ block_at-block-requires c =
 
 pub run_block-word-requires : goal.run_block-word-requires
 run_block-word-requires c =
-    let m = c.block_length-m.ensures in
-    (
+    let m = c.block_length-m.ensures in (
       m.2,
       (
         omega (arith, m.1, c.loop-k-test.true, c.loop-k.auto.answers, c.requires.1),
@@ -52,8 +51,7 @@ loop-k-preserved c =
 
 pub settle_last-requires : goal.settle_last-requires
 settle_last-requires c =
-    let l = c.loop-k in
-    (
+    let l = c.loop-k in (
       omega (arith, l.auto.answers, c.requires.1),
       at-end _ _ _ _ l.invariant.ran.bound c.loop-k-test.false l.invariant.ready,
     )

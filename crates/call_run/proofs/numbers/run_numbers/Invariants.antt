@@ -10,7 +10,7 @@ abbrev pub invariant-loop-k : goal.invariant-loop-k
 invariant-loop-k l = record {
   ran : RunTo (used_record l.n l.fn.neighbours l.fn.codes l.used) (steps_in l.ops l.a l.b l.value) l.count l.k
       l.fn.answers l.neighbours l.codes l.word l.answers;
-  ready : ReadyAt l.k l.answers (used_record l.n l.neighbours l.codes l.word)
+  ready : ReadyAt l.k l.answers (used_record l.n l.neighbours l.codes l.word);
 }
 
 abbrev pub decreases-loop-k : goal.decreases-loop-k

@@ -14,9 +14,9 @@ returns-then-early-ne0 c =
     let l = c.args in
     let u = used_record l.n l.neighbours.now l.codes.now l.used in
     let number : c.argument_number-early.result
-        ≡ first_fitting (used_lines_of (meant l.waiting u) (cz_on l.a l.b)) =
-        numbered (meant l.waiting u) c.requires.checked false (leb l.n l.a || (leb l.n l.b || eqb l.a l.b))
-        c.argument_number-early.ensures (ap₂ ◌||◌ c.bit_at.ensures c.bit_at-2.ensures) in
+    ≡ first_fitting (used_lines_of (meant l.waiting u) (cz_on l.a l.b)) =
+    numbered (meant l.waiting u) c.requires.checked false (leb l.n l.a || (leb l.n l.b || eqb l.a l.b))
+    c.argument_number-early.ensures (ap₂ ◌||◌ c.bit_at.ensures c.bit_at-2.ensures) in
     refused-step l.waiting u c.requires (cz_on l.a l.b) number c.if-early-ne0.true
 
 pub cz_unsettled-requires : goal.cz_unsettled-requires
@@ -24,9 +24,9 @@ cz_unsettled-requires c =
     let l = c.args in
     let u = used_record l.n l.neighbours.now l.codes.now l.used in
     let number : c.argument_number-early.result
-        ≡ first_fitting (used_lines_of (meant l.waiting u) (cz_on l.a l.b)) =
-        numbered (meant l.waiting u) c.requires.checked false (leb l.n l.a || (leb l.n l.b || eqb l.a l.b))
-        c.argument_number-early.ensures (ap₂ ◌||◌ c.bit_at.ensures c.bit_at-2.ensures) in
+    ≡ first_fitting (used_lines_of (meant l.waiting u) (cz_on l.a l.b)) =
+    numbered (meant l.waiting u) c.requires.checked false (leb l.n l.a || (leb l.n l.b || eqb l.a l.b))
+    c.argument_number-early.ensures (ap₂ ◌||◌ c.bit_at.ensures c.bit_at-2.ensures) in
     let places = cz-places l.waiting u c.requires l.a l.b number c.if-early-ne0.false in
     record { unrefused = ready_held l.waiting u c.requires; a_in_bounds = places }
 
@@ -35,8 +35,8 @@ returns c =
     let l = c.args in
     let u = used_record l.n l.neighbours.now l.codes.now l.used in
     let number : c.argument_number-early.result
-        ≡ first_fitting (used_lines_of (meant l.waiting u) (cz_on l.a l.b)) =
-        numbered (meant l.waiting u) c.requires.checked false (leb l.n l.a || (leb l.n l.b || eqb l.a l.b))
-        c.argument_number-early.ensures (ap₂ ◌||◌ c.bit_at.ensures c.bit_at-2.ensures) in
+    ≡ first_fitting (used_lines_of (meant l.waiting u) (cz_on l.a l.b)) =
+    numbered (meant l.waiting u) c.requires.checked false (leb l.n l.a || (leb l.n l.b || eqb l.a l.b))
+    c.argument_number-early.ensures (ap₂ ◌||◌ c.bit_at.ensures c.bit_at-2.ensures) in
     cz-stepped l.waiting u c.requires l.a l.b number c.if-early-ne0.false _ _
     c.cz_unsettled.ensures

@@ -13,9 +13,9 @@ returns-then-early-ne0 c =
     let a = c.args in
     let u = used_record a.n a.neighbours.now a.codes.now a.used in
     let number : c.argument_number-early.result
-        ≡ first_fitting (used_lines_of (meant a.waiting u) (gate_with a.qubit a.code)) =
-        numbered (meant a.waiting u) c.requires.checked (leb 24 a.code) (leb a.n a.qubit)
-        c.argument_number-early.ensures c.bit_at-sixteen.ensures in
+    ≡ first_fitting (used_lines_of (meant a.waiting u) (gate_with a.qubit a.code)) =
+    numbered (meant a.waiting u) c.requires.checked (leb 24 a.code) (leb a.n a.qubit)
+    c.argument_number-early.ensures c.bit_at-sixteen.ensures in
     refused-step a.waiting u c.requires (gate_with a.qubit a.code) number c.if-early-ne0.true
 
 pub gate_unsettled-requires : goal.gate_unsettled-requires
@@ -23,9 +23,9 @@ gate_unsettled-requires c =
     let a = c.args in
     let u = used_record a.n a.neighbours.now a.codes.now a.used in
     let number : c.argument_number-early.result
-        ≡ first_fitting (used_lines_of (meant a.waiting u) (gate_with a.qubit a.code)) =
-        numbered (meant a.waiting u) c.requires.checked (leb 24 a.code) (leb a.n a.qubit)
-        c.argument_number-early.ensures c.bit_at-sixteen.ensures in
+    ≡ first_fitting (used_lines_of (meant a.waiting u) (gate_with a.qubit a.code)) =
+    numbered (meant a.waiting u) c.requires.checked (leb 24 a.code) (leb a.n a.qubit)
+    c.argument_number-early.ensures c.bit_at-sixteen.ensures in
     let place = gate-place a.waiting u c.requires a.qubit a.code number c.if-early-ne0.false in
     record { unrefused = ready_held a.waiting u c.requires; q_in_bounds = place }
 
@@ -34,8 +34,8 @@ returns c =
     let a = c.args in
     let u = used_record a.n a.neighbours.now a.codes.now a.used in
     let number : c.argument_number-early.result
-        ≡ first_fitting (used_lines_of (meant a.waiting u) (gate_with a.qubit a.code)) =
-        numbered (meant a.waiting u) c.requires.checked (leb 24 a.code) (leb a.n a.qubit)
-        c.argument_number-early.ensures c.bit_at-sixteen.ensures in
+    ≡ first_fitting (used_lines_of (meant a.waiting u) (gate_with a.qubit a.code)) =
+    numbered (meant a.waiting u) c.requires.checked (leb 24 a.code) (leb a.n a.qubit)
+    c.argument_number-early.ensures c.bit_at-sixteen.ensures in
     gate-stepped a.waiting u c.requires a.qubit a.code number c.if-early-ne0.false _
     c.gate_unsettled.ensures

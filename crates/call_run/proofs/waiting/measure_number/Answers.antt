@@ -15,9 +15,9 @@ returns-then-early-ne0 c =
     let a = c.args in
     let u = used_record a.n a.neighbours.now a.codes.now a.used in
     let number : c.argument_number-early.result
-        ≡ first_fitting (used_arguments_of (meant a.waiting u) (measurement_of a.pauli a.qubit a.outcome)) =
-        numbered (meant a.waiting u) c.requires.checked (leb 2 a.outcome || (eqb a.pauli 0 || leb 4 a.pauli))
-        (leb a.n a.qubit) c.argument_number-early.ensures c.bit_at-sixteen.ensures in
+    ≡ first_fitting (used_arguments_of (meant a.waiting u) (measurement_of a.pauli a.qubit a.outcome)) =
+    numbered (meant a.waiting u) c.requires.checked (leb 2 a.outcome || (eqb a.pauli 0 || leb 4 a.pauli))
+    (leb a.n a.qubit) c.argument_number-early.ensures c.bit_at-sixteen.ensures in
     arguments-refuse (meant a.waiting u) a.pauli a.qubit a.outcome number c.if-early-ne0.true
 
 pub contradicted-requires : goal.contradicted-requires
@@ -25,9 +25,9 @@ contradicted-requires c =
     let a = c.args in
     let u = used_record a.n a.neighbours.now a.codes.now a.used in
     let number : c.argument_number-early.result
-        ≡ first_fitting (used_arguments_of (meant a.waiting u) (measurement_of a.pauli a.qubit a.outcome)) =
-        numbered (meant a.waiting u) c.requires.checked (leb 2 a.outcome || (eqb a.pauli 0 || leb 4 a.pauli))
-        (leb a.n a.qubit) c.argument_number-early.ensures c.bit_at-sixteen.ensures in
+    ≡ first_fitting (used_arguments_of (meant a.waiting u) (measurement_of a.pauli a.qubit a.outcome)) =
+    numbered (meant a.waiting u) c.requires.checked (leb 2 a.outcome || (eqb a.pauli 0 || leb 4 a.pauli))
+    (leb a.n a.qubit) c.argument_number-early.ensures c.bit_at-sixteen.ensures in
     let whole = asks-before a.waiting u c.requires a.pauli a.qubit a.outcome number c.if-early-ne0.false in
     record { unrefused = whole.0; le_pauli = whole.1 }
 
@@ -36,9 +36,9 @@ returns-then-contradicted c =
     let a = c.args in
     let u = used_record a.n a.neighbours.now a.codes.now a.used in
     let number : c.argument_number-early.result
-        ≡ first_fitting (used_arguments_of (meant a.waiting u) (measurement_of a.pauli a.qubit a.outcome)) =
-        numbered (meant a.waiting u) c.requires.checked (leb 2 a.outcome || (eqb a.pauli 0 || leb 4 a.pauli))
-        (leb a.n a.qubit) c.argument_number-early.ensures c.bit_at-sixteen.ensures in
+    ≡ first_fitting (used_arguments_of (meant a.waiting u) (measurement_of a.pauli a.qubit a.outcome)) =
+    numbered (meant a.waiting u) c.requires.checked (leb 2 a.outcome || (eqb a.pauli 0 || leb 4 a.pauli))
+    (leb a.n a.qubit) c.argument_number-early.ensures c.bit_at-sixteen.ensures in
     found-14 a.waiting u c.requires a.pauli a.qubit a.outcome number c.if-early-ne0.false
     c.contradicted.ensures c.if-contradicted.true
 
@@ -47,8 +47,8 @@ returns-else-contradicted c =
     let a = c.args in
     let u = used_record a.n a.neighbours.now a.codes.now a.used in
     let number : c.argument_number-early.result
-        ≡ first_fitting (used_arguments_of (meant a.waiting u) (measurement_of a.pauli a.qubit a.outcome)) =
-        numbered (meant a.waiting u) c.requires.checked (leb 2 a.outcome || (eqb a.pauli 0 || leb 4 a.pauli))
-        (leb a.n a.qubit) c.argument_number-early.ensures c.bit_at-sixteen.ensures in
+    ≡ first_fitting (used_arguments_of (meant a.waiting u) (measurement_of a.pauli a.qubit a.outcome)) =
+    numbered (meant a.waiting u) c.requires.checked (leb 2 a.outcome || (eqb a.pauli 0 || leb 4 a.pauli))
+    (leb a.n a.qubit) c.argument_number-early.ensures c.bit_at-sixteen.ensures in
     found_none a.waiting u c.requires a.pauli a.qubit a.outcome number c.if-early-ne0.false
     c.contradicted.ensures c.if-contradicted.false

@@ -15,7 +15,7 @@ pub measure_unsettled-measured-requires : goal.measure_unsettled-measured-requir
 measure_unsettled-measured-requires c =
     let a = c.args in
     let whole = measure-asks a.waiting (used_record a.n a.neighbours.now a.codes.now a.used.now) c.requires a.pauli
-        a.qubit a.outcome c.measure_number-early.ensures c.if-early-ne0.false in
+    a.qubit a.outcome c.measure_number-early.ensures c.if-early-ne0.false in
     record { unrefused = whole.0; le_pauli = whole.1 }
 
 pub single-requires : goal.single-requires

@@ -15,9 +15,9 @@ returns-then-early-ne0 c =
     let a = c.args in
     let u = used_record a.n a.neighbours.now a.codes.now a.used.now in
     let number : c.argument_number-early.result
-        ≡ first_fitting (used_arguments_of (meant a.waiting u) (measurement_of a.pauli a.qubit a.bit)) =
-        numbered (meant a.waiting u) c.requires.checked (leb 2 a.bit || (eqb a.pauli 0 || leb 4 a.pauli))
-        (leb a.n a.qubit) c.argument_number-early.ensures c.bit_at-sixteen.ensures in
+    ≡ first_fitting (used_arguments_of (meant a.waiting u) (measurement_of a.pauli a.qubit a.bit)) =
+    numbered (meant a.waiting u) c.requires.checked (leb 2 a.bit || (eqb a.pauli 0 || leb 4 a.pauli))
+    (leb a.n a.qubit) c.argument_number-early.ensures c.bit_at-sixteen.ensures in
     refused-observation a.waiting u c.requires a.pauli a.qubit a.bit number c.if-early-ne0.true
 
 pub measure_unsettled-measured-requires : goal.measure_unsettled-measured-requires
@@ -25,9 +25,9 @@ measure_unsettled-measured-requires c =
     let a = c.args in
     let u = used_record a.n a.neighbours.now a.codes.now a.used.now in
     let number : c.argument_number-early.result
-        ≡ first_fitting (used_arguments_of (meant a.waiting u) (measurement_of a.pauli a.qubit a.bit)) =
-        numbered (meant a.waiting u) c.requires.checked (leb 2 a.bit || (eqb a.pauli 0 || leb 4 a.pauli))
-        (leb a.n a.qubit) c.argument_number-early.ensures c.bit_at-sixteen.ensures in
+    ≡ first_fitting (used_arguments_of (meant a.waiting u) (measurement_of a.pauli a.qubit a.bit)) =
+    numbered (meant a.waiting u) c.requires.checked (leb 2 a.bit || (eqb a.pauli 0 || leb 4 a.pauli))
+    (leb a.n a.qubit) c.argument_number-early.ensures c.bit_at-sixteen.ensures in
     let whole = asks-before a.waiting u c.requires a.pauli a.qubit a.bit number c.if-early-ne0.false in
     record { unrefused = whole.0; le_pauli = whole.1 }
 
@@ -36,9 +36,9 @@ single-requires c =
     let a = c.args in
     let u = used_record a.n a.neighbours.now a.codes.now a.used.now in
     let number : c.argument_number-early.result
-        ≡ first_fitting (used_arguments_of (meant a.waiting u) (measurement_of a.pauli a.qubit a.bit)) =
-        numbered (meant a.waiting u) c.requires.checked (leb 2 a.bit || (eqb a.pauli 0 || leb 4 a.pauli))
-        (leb a.n a.qubit) c.argument_number-early.ensures c.bit_at-sixteen.ensures in
+    ≡ first_fitting (used_arguments_of (meant a.waiting u) (measurement_of a.pauli a.qubit a.bit)) =
+    numbered (meant a.waiting u) c.requires.checked (leb 2 a.bit || (eqb a.pauli 0 || leb 4 a.pauli))
+    (leb a.n a.qubit) c.argument_number-early.ensures c.bit_at-sixteen.ensures in
     observe-below a.waiting u c.requires a.pauli a.qubit a.bit number c.if-early-ne0.false
 
 pub returns : goal.returns
@@ -46,9 +46,9 @@ returns c =
     let a = c.args in
     let u = used_record a.n a.neighbours.now a.codes.now a.used.now in
     let number : c.argument_number-early.result
-        ≡ first_fitting (used_arguments_of (meant a.waiting u) (measurement_of a.pauli a.qubit a.bit)) =
-        numbered (meant a.waiting u) c.requires.checked (leb 2 a.bit || (eqb a.pauli 0 || leb 4 a.pauli))
-        (leb a.n a.qubit) c.argument_number-early.ensures c.bit_at-sixteen.ensures in
+    ≡ first_fitting (used_arguments_of (meant a.waiting u) (measurement_of a.pauli a.qubit a.bit)) =
+    numbered (meant a.waiting u) c.requires.checked (leb 2 a.bit || (eqb a.pauli 0 || leb 4 a.pauli))
+    (leb a.n a.qubit) c.argument_number-early.ensures c.bit_at-sixteen.ensures in
     observe-stepped a.waiting u c.requires a.pauli a.qubit a.bit number c.if-early-ne0.false _ _ _ _ _ _
     c.measure_unsettled-measured.ensures.group_held c.measure_unsettled-measured.ensures.value
     (ap (bit_or a.used.now) c.single.ensures) c.outcome_number-told.ensures c.determined_number-known.ensures
