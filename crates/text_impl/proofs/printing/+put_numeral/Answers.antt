@@ -17,8 +17,7 @@ returns-then-k-lt10 t c = same-print (sym (numeral-one c.args.k c.if-k-lt10.true
 
 pub put_numeral-next-requires : goal.put_numeral-next-requires
 put_numeral-next-requires t c =
-    let k = c.args.k in
-    (
+    let k = c.args.k in (
       omega (arith, c.decreases, c.if-k-lt10.false),
       omega (
         arith,
