@@ -6,6 +6,8 @@ use native.Mathlib.Nat.{suc-add, zero-add}
 use native.Mathlib.Omega.{arith}
 use lib.ListN.{drop, length, take}
 use lib.Seq.{length-take-le}
+use Rattle.std.proofs.lemmas.List.{length-take}
+use Rattle.std.proofs.Common.{length-drop}
 use Rattle.buffers.proofs.Filling.{FilledBy, all-filled}
 use Rattle.jobs.proofs.ParallelLaws.{block-is}
 use Rattle.jobs.specs.declared.Step.{Step}
@@ -35,6 +37,12 @@ take_more : (k m : ℕ) (l : List Step) → take k l ++ take m (drop k l) ≡ ta
 take_more zero m l = ap (λ i. take i l) (sym (zero-add m))
 take_more (suc k) m [] = take-nothing m ∙ sym (take-nothing (suc k + m))
 take_more (suc k) m (x ∷ l) = ap (λ t. x ∷ t) (take_more k m l) ∙ ap (λ i. take i (x ∷ l)) (sym (suc-add k m))
+
+-- a block of which the first m are steps of the lists holds as many
+pub filled-inside : (k m : ℕ) (block steps : List Step) → take m block ≡ take m (drop k steps) → k + m ≤ length steps
+    → m ≤ length block
+filled-inside k m block steps e room =
+    omega (arith, length-take m block, length-take m (drop k steps), length-drop k steps, ap length e, room)
 
 -- what is known before a block is known behind it
 pub block-ready : (u : UsedRecord) (k m : ℕ) (block : List Step) → m ≤ length block

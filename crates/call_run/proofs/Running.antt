@@ -6,9 +6,6 @@ use Prim.Native.Nat.{◌%◌, ◌+◌, ◌/◌, ◌<◌, ℕ}
 use native.Mathlib.Decide.{ℕ_discrete}
 use lib.Dec.{eqb}
 use borrow.Author.Tests.{eq-eqb, leb-false, ne_eqb}
-use types.Run.{OneOf, miss}
-use denote.Enum.Declared.{tag_of}
-use Rattle.jobs.specs.contracts.Op.{the_type}
 use Rattle.buffers.specs.Refusals.{first_fitting}
 use Rattle.buffers.proofs.Calling.{kept-all}
 use Rattle.buffers.specs.Calls.{Call}
@@ -53,16 +50,6 @@ use Rattle.call_run.specs.internal.StepRuns.{NoOutcome, Plain, Rewriting, StepRu
 abbrev answer : ℕ → ℕ → ℕ → Answer
 answer k o d = record { refusal = k; outcome = o; determined = d }
 
--- other tags than that of a measurement, of an observation and of a renewal
-abbrev NoMeasure : Op → Type 0
-NoMeasure op = OneOf (0 ∷ 1 ∷ 3 ∷ 4 ∷ 5 ∷ 6 ∷ []) (tag_of the_type op)
-
-abbrev NoObserve : Op → Type 0
-NoObserve op = OneOf (0 ∷ 1 ∷ 2 ∷ 3 ∷ 4 ∷ 6 ∷ []) (tag_of the_type op)
-
-abbrev NoRenew : Op → Type 0
-NoRenew op = OneOf (0 ∷ 1 ∷ 2 ∷ 3 ∷ 4 ∷ 5 ∷ []) (tag_of the_type op)
-
 -- an operation that copies the used word
 plain_word : (u : UsedRecord) (o : Operation) → Plain u o → u.used ≡ (used_step u o).after.used
 plain_word u o P = kept (eqb (used_step u o).number 0)
@@ -99,13 +86,14 @@ module _ (u : UsedRecord) (s : Step) where
   pub photon-small : wrong ≡ false → s.op ≡ Renew → s.value < 12
   photon-small e g = leb-false 12 s.value (value-right e g)
 
-  pub rewriting : wrong ≡ false → NoMeasure s.op → NoObserve s.op → NoRenew s.op → Rewriting s.op s.value
+  pub rewriting : wrong ≡ false → (s.op ≡ Measure → ⊥) → (s.op ≡ Observe → ⊥) → (s.op ≡ Renew → ⊥)
+      → Rewriting s.op s.value
   rewriting e m o r =
       record {
         code = λ g. leb-false 24 s.value (value-right e g);
-        no-measure = λ g. miss (0 ∷ 1 ∷ 3 ∷ 4 ∷ 5 ∷ 6 ∷ []) 2 tt (subst NoMeasure g m);
-        no-observe = λ g. miss (0 ∷ 1 ∷ 2 ∷ 3 ∷ 4 ∷ 6 ∷ []) 5 tt (subst NoObserve g o);
-        no-renew = λ g. miss (0 ∷ 1 ∷ 2 ∷ 3 ∷ 4 ∷ 5 ∷ []) 6 tt (subst NoRenew g r);
+        no-measure = m;
+        no-observe = o;
+        no-renew = r;
       }
 
   -- the fields alone are wrong

@@ -28,7 +28,7 @@ pub fn run(
 ) -> u8
     ensures { Call (run_call (used_record n neighbours.old codes.old used.old)
         (record {
-          ops = ops.entry.now;
+          ops = ops.now;
           a = a.now;
           b = b.now;
           value = value.now;

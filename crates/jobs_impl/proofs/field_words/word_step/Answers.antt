@@ -40,17 +40,16 @@ returns-then-k-ge11 c = simp (le-ltb _ _ c.if-k-ge11.true) c.with_op.ensures
 pub returns-then-b-word : goal.returns-then-b-word
 returns-then-b-word c =
     c.with_op-then-b-word.ensures
-    ∙ other-letter _ c.args.s _ _ _ c.op_for-op.ensures c.op_letters-word.ensures
-    c.if-k-ge11.false c.if-b-word.true
+    ∙ other-letter _ c.args.s _ _ _ c.op_for-op.ensures c.op_letters-word.ensures c.if-k-ge11.false c.if-b-word.true
 
 pub returns-then-b-eq32 : goal.returns-then-b-eq32
 returns-then-b-eq32 c =
     c.with_op-then-b-eq32.ensures
-    ∙ last_letter _ c.args.s _ _ _ c.op_for-op.ensures c.op_letters-word.ensures
-    c.if-k-ge11.false c.if-b-word.false c.if-b-eq32.true
+    ∙ last_letter _ c.args.s _ _ _ c.op_for-op.ensures c.op_letters-word.ensures c.if-k-ge11.false
+    c.if-b-word.false c.if-b-eq32.true
 
 pub returns : goal.returns
 returns c =
     c.with_op-2.ensures
-    ∙ next-letter _ c.args.s _ _ _ c.op_for-op.ensures c.op_letters-word.ensures
-    c.if-k-ge11.false c.if-b-word.false c.if-b-eq32.false
+    ∙ next-letter _ c.args.s _ _ _ c.op_for-op.ensures c.op_letters-word.ensures c.if-k-ge11.false
+    c.if-b-word.false c.if-b-eq32.false

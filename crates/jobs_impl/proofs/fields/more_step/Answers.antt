@@ -31,34 +31,34 @@ pub returns-then-v : goal.returns-then-v
 unfolding more_step
 returns-then-v c =
     simp (
-  ← c.digit_value-d.ensures,
-  lt-ltb _ _ c.if-d-lt10.true,
-  c.if-v.true,
-) c.with_number.ensures
+      ← c.digit_value-d.ensures,
+      lt-ltb _ _ c.if-d-lt10.true,
+      c.if-v.true,
+    ) c.with_number.ensures
 
 pub returns-then-d-lt10 : goal.returns-then-d-lt10
 unfolding more_step
 returns-then-d-lt10 c =
     simp (
-  ← c.digit_value-d.ensures,
-  lt-ltb _ _ c.if-d-lt10.true,
-  c.if-v.false,
-) c.with_number-then-d-lt10.ensures
+      ← c.digit_value-d.ensures,
+      lt-ltb _ _ c.if-d-lt10.true,
+      c.if-v.false,
+    ) c.with_number-then-d-lt10.ensures
 
 pub returns-then-b-separator_of : goal.returns-then-b-separator_of
 unfolding more_step
 returns-then-b-separator_of c =
     simp (
-  ← c.digit_value-d.ensures,
-  le-ltb _ _ c.if-d-lt10.false,
-  eq-eqb _ _ (c.if-b-separator_of.true ∙ c.separator_of.ensures),
-) c.field_end.ensures
+      ← c.digit_value-d.ensures,
+      le-ltb _ _ c.if-d-lt10.false,
+      eq-eqb _ _ (c.if-b-separator_of.true ∙ c.separator_of.ensures),
+    ) c.field_end.ensures
 
 pub returns : goal.returns
 unfolding more_step
 returns c =
     simp (
-  ← c.digit_value-d.ensures,
-  le-ltb _ _ c.if-d-lt10.false,
-  ne_eqb _ _ (λ e. c.if-b-separator_of.false (e ∙ sym c.separator_of.ensures)),
-) c.with_number-2.ensures
+      ← c.digit_value-d.ensures,
+      le-ltb _ _ c.if-d-lt10.false,
+      ne_eqb _ _ (λ e. c.if-b-separator_of.false (e ∙ sym c.separator_of.ensures)),
+    ) c.with_number-2.ensures
