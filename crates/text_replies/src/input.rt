@@ -9,7 +9,7 @@ use text::scan::Verdict;
 use text_impl::blocks::{finish, scan_block, start};
 
 // Reads until the block is full or the input ends, and returns how many bytes it put at the start of the block. The only
-// error is that of a read, and the block then holds what was read before it. On an empty block it makes no read.
+// error is that of a read, after which the block holds anything. On an empty block it makes no read.
 pub fn read_full<R: Read>(input: &mut R, block: &mut [u8]) -> io::Result<usize>
     ensures { ReadsAtMost result block.new }
 {
