@@ -1,27 +1,29 @@
 // Reads a generator list from standard input, by `read_list` of text_replies, and prints the table of its amplitudes, which
 // `plot_reply` of jobs_replies makes of what was scanned.
-ghost use Rattle.std.specs.Prelude.{◌≤◌, length};
+ghost use Rattle.std.specs.Prelude.{◌≤◌, length, ◌≡◌, IfOk, OnErr};
 ghost use Rattle.calls.specs.PlotAnswers.{longest_table};
 ghost use Rattle.amplitudes.specs.Reads.{AmplitudesResponded};
 
 use jobs_replies::plots::plot_reply;
-use libc::STDOUT_FILENO;
+use std::io;
+use std::io::Read;
 use text_replies::input::read_list;
 
-// Prints the answer to the text on standard input.
-fn respond(out: &mut [u8]) -> usize
+// Prints the answer to the text of an input, or gives the error of a read, which leaves the buffer as it was.
+fn respond<R: Read>(input: &mut R, out: &mut [u8]) -> io::Result<usize>
     requires { longest_table ≤ length out.old }
-    ensures { AmplitudesResponded out.old out.new result }
+    ensures ok { IfOk result (AmplitudesResponded out.old out.new) }
+    ensures err { OnErr result (out.new ≡ out.old) }
 {
     let mut signs = [0u8; 64];
     let mut z = [0u64; 64];
     let mut x = [0u64; 64];
-    let verdict = read_list(&mut signs, &mut z, &mut x);
-    plot_reply(verdict, signs, z, x, out)
+    let verdict = read_list(input, &mut signs, &mut z, &mut x)?;
+    Ok(plot_reply(verdict, signs, z, x, out))
 }
 
-fn main() {
+fn main(rt: HostRuntime) -> io::Result<()> {
     let mut out = [0u8; 57354];
-    let end = respond(&mut out);
-    io::write_all(STDOUT_FILENO, &out[..end]);
+    let end = respond(&mut rt.stdin(), &mut out)?;
+    rt.write_all(&out[..end])
 }

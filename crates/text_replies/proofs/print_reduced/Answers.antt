@@ -7,35 +7,26 @@ use Rattle.text_replies.proofs.print_reduced.Goals as goal
 
 pub print_refusal-requires : goal.print_refusal-requires
 print_refusal-requires c =
-    let E = c.before.before.before.before.before.before.before in
-    let S = E.before.before.before.before.before.before.before.before.before in
-    let a = S.args in
+    let a = c.args in
     let l : GeneratorList = record { n = a.n; signs = a.signs.now; z = a.z.now; x = a.x.now } in
-    (number_small l _ _ _ S.requires _ _ _ E.reduce-number.ensures, omega (arith, S.requires.room))
+    (number_small l _ _ _ c.requires _ _ _ c.reduce-number.ensures, omega (arith, c.requires.room))
 
 pub returns-then-number-ne0 : goal.returns-then-number-ne0
 returns-then-number-ne0 c =
-    let E = c.before.before.before.before.before.before.before.before.before.before in
-    let S = E.before.before.before.before.before.before.before.before.before in
-    let a = S.args in
+    let a = c.args in
     let l : GeneratorList = record { n = a.n; signs = a.signs.now; z = a.z.now; x = a.x.now } in
-    same-print (refused-printed l _ _ _ S.requires _ _ _ E.reduce-number.ensures
-    c.if-number-ne0.true) c.print_refusal.ensures
+    same-print (refused-printed l _ _ _ c.requires _ _ _ c.reduce-number.ensures c.if-number-ne0.true)
+    c.print_refusal.ensures
 
 pub print_record-requires : goal.print_record-requires
 print_record-requires c =
-    let E = c.before.before.before.before.before.before.before.before.before in
-    let S = E.before.before.before.before.before.before.before.before.before in
-    let a = S.args in
+    let a = c.args in
     let l : GeneratorList = record { n = a.n; signs = a.signs.now; z = a.z.now; x = a.x.now } in
-    printable l _ _ _ S.requires _ _ _ E.reduce.ensures c.if1.false
+    printable l _ _ _ c.requires _ _ _ c.reduce-number.ensures c.if-number-ne0.false
 
 pub returns : goal.returns
 returns c =
-    let E = c.before.before.before.before.before.before.before.before.before.before.before.before in
-    let S = E.before.before.before.before.before.before.before.before.before in
-    let a = S.args in
+    let a = c.args in
     let l : GeneratorList = record { n = a.n; signs = a.signs.now; z = a.z.now; x = a.x.now } in
-    same-print (record-printed l _ _ _ S.pre _ _ _ E.reduce.ensures
-    c.if1.false)
+    same-print (record-printed l _ _ _ c.requires _ _ _ c.reduce-number.ensures c.if-number-ne0.false)
     c.print_record.ensures

@@ -11,3 +11,10 @@ pub record Scanned (signs z x signs' z' x' : List ℕ) (r : Verdict) : Type 0 wh
   pub scan : Scan
   pub lines : as_reading scan signs' z' x' ≡ fed (as_reading begin signs z x) text
   pub judged : r ≡ verdict scan
+
+-- a read failed, and the text that was read before it was scanned: its lines are in the buffers, whose names have a prime
+-- for what they hold after
+pub record ScannedSoFar (signs z x signs' z' x' : List ℕ) : Type 0 where
+  pub text : List ℕ
+  pub scan : Scan
+  pub lines : as_reading scan signs' z' x' ≡ fed (as_reading begin signs z x) text
