@@ -5,7 +5,7 @@ An edit is a list of (old text, new text); each old text stands exactly once in 
 
 BYPASSES = [
     ("constant array of 576 codes", "an entry of the table is another code", [
-        ("    2, // 4 then 4", "    3, // 4 then 4"),
+        ("2, // 4 then 4", "3, // 4 then 4"),
     ]),
     ("constant array of 576 codes", "the table is kept as words", [
         ("pub const THEN: [u8; 576] = [", "pub const THEN: [u64; 576] = ["),

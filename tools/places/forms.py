@@ -170,7 +170,7 @@ def inverse_reached(world):
         return ["there is no method inverse"]
     wrong = world.missing(["compare", "compare_records", "equivalent", "equivalent_records"], [found], "inverse")
     for item in world.promising(world.promises.definition("inverse")):
-        if "codeOf" in " ".join(item.clauses("ensures")) and found not in world.way(item):
+        if "code_of" in " ".join(item.clauses("ensures")) and found not in world.way(item):
             wrong.append(f"{lines_of(item)} promises the code of an inverse and does not ask the method inverse")
     return wrong
 
@@ -237,7 +237,7 @@ def class_match(world):
 
 def image_bits(world):
     """The image rule begins with the bits C and D of the match, at each vertex."""
-    rule = world.promising(world.promises.definition("imageList", "moves"))
+    rule = world.promising(world.promises.definition("image_list", "moves"))
     tracked = {item.function.answer for item in rule}
     starts = [
         item for item in world.functions
@@ -278,7 +278,7 @@ def lent_rows(world):
 def reductions(world):
     """The functions that take the array of the reduction by value with one word of signs, work on it, and promise the
     reduced record."""
-    reduced = world.promises.definition("reduced", "withHadamard")
+    reduced = world.promises.definition("reduced", "with_hadamard")
     found = []
     for item in world.promising(reduced):
         given = parameters(item)
@@ -321,7 +321,7 @@ def smallest(world):
     if not own:
         return ["no call reaches trailing zeros"]
     wrong = []
-    for item in world.promising(world.promises.definition("moves", "imageList")):
+    for item in world.promising(world.promises.definition("moves", "image_list")):
         if not set(own) & ({item} | world.sources.named(item)):
             wrong.append(f"{lines_of(item)} finds the smallest vertex without trailing zeros")
     return wrong + world.missing(["image", "complement", "gate", "reduce", "measure"], own, "trailing zeros")
