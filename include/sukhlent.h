@@ -69,8 +69,8 @@
 
 /* The version of this header: major * 10000 + minor * 100 + patch, and as a text.
  * sukhlent_version answers that of the library. */
-#define SUKHLENT_VERSION 10000
-#define SUKHLENT_VERSION_TEXT "1.0.0"
+#define SUKHLENT_VERSION 1600
+#define SUKHLENT_VERSION_TEXT "0.16.0"
 
 /* The length of a buffer, in elements: 64 bits on every processor, also where size_t has 32. */
 typedef uint64_t sukhlent_length;
@@ -167,22 +167,22 @@ typedef uint64_t sukhlent_length;
  * Pointers: none is null, also where a length is 0, and each is aligned for its type.
  * Stores: the three buffers of a store are in the machine's byte order, and may be kept in a file as
  *   they are; every call checks what it is lent.
- * Versions: all of 1.x keep these calls and numbers, and may add to them. A program that loads the
- *   library itself asks that sukhlent_version() is SUKHLENT_VERSION or later, with the same / 10000.
+ * Versions: before 1.0 a minor version may change a signature. A program that loads the library
+ *   itself compares sukhlent_version() / 100 with SUKHLENT_VERSION / 100.
  * Threads: no call keeps anything between calls. Two threads may call at once, each with buffers
  *   of its own for what is not const.
  * Stack: no call uses the heap. Of the stack, compare, equivalent, compare_records and
- *   equivalent_records take at most these bytes, and every other call at most 7,000 (measured, not
+ *   equivalent_records take at most these bytes, and every other call at most 6,000 (measured, not
  *   proved: docs/PROCESSORS.md):
- *   x86-64        17,000
- *   x86-64-v3     17,000
- *   aarch64       17,000
- *   riscv64       17,500
- *   armv7         17,000
- *   wasm32        16,500
- *   cortex-m4     17,000
- *   riscv64-none  17,500
- *   aarch64-none  17,500 */
+ *   x86-64        19,000
+ *   x86-64-v3     19,000
+ *   aarch64       18,500
+ *   riscv64       19,500
+ *   armv7         19,000
+ *   wasm32        18,000
+ *   cortex-m4     19,000
+ *   riscv64-none  19,500
+ *   aarch64-none  19,500 */
 
 /* What a refusal number means, in words. */
 static inline const char *sukhlent_refusal_text(uint8_t number)

@@ -62,7 +62,7 @@ def library():
         run = subprocess.run([str(ROOT / "tools" / "shared")], stdout=subprocess.PIPE, stderr=subprocess.STDOUT, text=True)
         if run.returncode != 0 or not path.is_file():
             raise Missing(f"{path} is not there, and tools/shared could not write it; prove and build it with:"
-                          f" rt staticlib sukhlent && tools/shared\n{run.stdout}")
+                          f" tools/build sukhlent && tools/shared\n{run.stdout}")
     return path.resolve()
 
 
@@ -71,7 +71,7 @@ def programs():
     paths = [ROOT / "target" / "bin" / name for name in PROGRAMS]
     gone = [path.name for path in paths if not path.is_file()]
     if gone:
-        raise Missing(f"the programs {', '.join(gone)} are not in target/bin; prove and build them with: rt check {' '.join(gone)}")
+        raise Missing(f"the programs {', '.join(gone)} are not in target/bin; prove and build them with: tools/build {' '.join(gone)}")
     return paths
 
 

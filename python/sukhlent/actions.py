@@ -48,7 +48,7 @@ def _program(name: str, text: str, fault: "str | None") -> str:
     """What a proved program prints of a text."""
     program = path_of(name)
     if program is None:
-        raise Trouble(f"the program {name} was not found; build it with: rt check {name}")
+        raise Trouble(f"the program {name} was not found; build it with: tools/build {name}")
     answer = fed(program, text.encode("utf-8", "surrogateescape")).decode()
     if answer.startswith("refused "):
         number = int(answer.split()[1])

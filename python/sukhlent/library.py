@@ -108,7 +108,7 @@ def _declared(library: ctypes.CDLL, path: Path) -> ctypes.CDLL:
         if function is None:
             raise ImportError(
                 f"{path} has no sukhlent_{name}: it is of another version than this package. In a clone, build it anew"
-                " with: rt staticlib sukhlent && tools/shared"
+                " with: tools/build sukhlent && tools/shared"
             )
         function.argtypes = arguments
         function.restype = c_uint32 if name == "version" else c_uint8

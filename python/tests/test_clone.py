@@ -10,8 +10,8 @@ from pathlib import Path
 
 from tests.places import ROOT
 
-#: what `rt check reduce job` and `rt staticlib sukhlent` leave; the large part is linked, since nothing writes to it
-PROVED = {"bin": shutil.copy2, "log": shutil.copy2, "rlib": os.link, "stamp": shutil.copy2, "staticlib": shutil.copy2}
+#: what `tools/build sukhlent reduce job` leaves in target/, beside the libraries of crates/*/out
+PROVED = ("bin", "staticlib", "proved")
 
 
 def files():
@@ -24,15 +24,34 @@ def files():
     return [str(path) for path in found if path.parts[0] not in ("target", ".git")]
 
 
+def linked(one, other):
+    """A file under a second name, since nothing writes to it; a copy on another disk."""
+    try:
+        os.link(one, other)
+    except OSError:
+        shutil.copy2(one, other)
+
+
+def copy(one, other, how=shutil.copy2):
+    """A file or a folder, where it is there."""
+    if one.is_dir():
+        shutil.copytree(one, other, symlinks=True, copy_function=how)
+    elif one.exists():
+        other.parent.mkdir(parents=True, exist_ok=True)
+        how(one, other)
+
+
 class Clone(unittest.TestCase):
     def test_readme_prints_what_it_shows_in_a_fresh_clone(self):
-        with tempfile.TemporaryDirectory(dir=ROOT / "target") as folder:
+        with tempfile.TemporaryDirectory() as folder:
             clone = Path(folder)
             for name in files():
                 (clone / name).parent.mkdir(parents=True, exist_ok=True)
                 shutil.copy(ROOT / name, clone / name)
-            for name, how in PROVED.items():
-                shutil.copytree(ROOT / "target" / name, clone / "target" / name, symlinks=True, copy_function=how)
+            for name in PROVED:
+                copy(ROOT / "target" / name, clone / "target" / name)
+            for path in ROOT.glob("crates/*/out/rlib"):
+                copy(path, clone / path.relative_to(ROOT), how=linked)
             environment = {name: value for name, value in os.environ.items() if name != "PYTHONPATH"}
             command = [str(clone / "tools" / "shown"), str(clone / "README.md")]
             run = subprocess.run(command, capture_output=True, text=True, timeout=300, env=environment)

@@ -115,7 +115,7 @@ class Pip(unittest.TestCase):
                 timeout=60, env={**BARE, "PATH": "/none"},
             )  # fmt: skip
             self.assertEqual(done.returncode, 1)
-            self.assertIn("prove and build it with: rt staticlib sukhlent && tools/shared", done.stderr)
+            self.assertIn("prove and build it with: tools/build sukhlent && tools/shared", done.stderr)
 
 
 if __name__ == "__main__":

@@ -1,4 +1,4 @@
-//! Links the static library that `rt staticlib inspect` writes.
+//! Links the static library that `tools/build inspect` writes.
 
 use std::path::Path;
 
@@ -7,7 +7,7 @@ fn main() {
     let folder = Path::new(&root).join("../../target/staticlib");
     if !folder.join("libinspect.a").is_file() {
         let folder = folder.display();
-        eprintln!("no libinspect.a in {folder}\nrun `rt staticlib inspect` in the clone");
+        eprintln!("no libinspect.a in {folder}\nrun `tools/build inspect` in the clone");
         std::process::exit(1);
     }
     let folder = folder.display();

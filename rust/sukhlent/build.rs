@@ -1,4 +1,4 @@
-//! Links the static library that `rt staticlib sukhlent` writes, or the one in the folder that
+//! Links the static library that `tools/build sukhlent` writes, or the one in the folder that
 //! SUKHLENT_LIB names, as PREFIX/lib after `tools/install PREFIX`.
 
 use std::path::{Path, PathBuf};
@@ -29,7 +29,7 @@ pub fn found(folder: &Path) -> Result<&Path, String> {
         return Ok(folder);
     }
     Err(format!(
-        "no libsukhlent.a in {}\nrun `rt staticlib sukhlent` in the clone, which proves the engine \
+        "no libsukhlent.a in {}\nrun `tools/build sukhlent` in the clone, which proves the engine \
          and writes it, or name the folder of an installed one in SUKHLENT_LIB",
         folder.display()
     ))

@@ -6,32 +6,33 @@ import os
 import re
 import shutil
 import subprocess
+import tempfile
 import time
+
+from reading import kit
 
 REFUSED, SURVIVED, NOT_APPLICABLE, UNDECIDED = "refused", "survived", "not applicable", "undecided"
 
 # The proof names a part of the goal that the mutant no longer has: nothing is said about the facts.
-OTHER_SHAPE = re.compile(r"error: .*module `[^`]*` has no `")
+OTHER_SHAPE = re.compile(r"^(note: )?(\./)?proofs/.*(has no field|is not in scope|has no `)")
 
 
 class Copy:
-    """The folder target/mutate: crates.txt, crates/ and what is proved of them."""
+    """A folder outside of the repository, since rt ci reads all of that: crates/, what is proved of them, and the logs."""
 
     def __init__(self, root):
-        self.folder = os.path.join(root, "target", "mutate")
+        self.every = kit.crates(root)
+        short = hashlib.sha256(os.path.realpath(root).encode()).hexdigest()[:8]
+        self.folder = os.path.join(tempfile.gettempdir(), f"sukhlent-mutate-{short}")
         self.seconds = {}
-        os.makedirs(os.path.join(root, "target"), exist_ok=True)
         self.lock = open(self.folder + ".lock", "w", encoding="utf-8")
         try:
             fcntl.flock(self.lock, fcntl.LOCK_EX | fcntl.LOCK_NB)
         except OSError:
-            raise SystemExit("another run is under way in target/mutate") from None
+            raise SystemExit(f"another run is under way in {self.folder}") from None
         shutil.rmtree(self.folder, ignore_errors=True)
         os.makedirs(os.path.join(self.folder, "log"))
-        shutil.copy(os.path.join(root, "crates.txt"), self.folder)
-        for part in ("crates", "target/rlib", "target/stamp"):
-            if os.path.isdir(os.path.join(root, part)):
-                shutil.copytree(os.path.join(root, part), os.path.join(self.folder, part))
+        shutil.copytree(os.path.join(root, "crates"), self.path("crates"), ignore=shutil.ignore_patterns("out"))
 
     def path(self, file):
         return os.path.join(self.folder, file)
@@ -45,12 +46,14 @@ class Copy:
             return file.read()
 
     def check(self, crate, limit=None):
-        """The status of `rt dev` and what it said; no status where the time ran out."""
-        command = ["rt", "dev", crate]
+        """The status of `rattle check` and what it said; no status where the time ran out."""
+        kept = self.path(f"kept/{crate}")
+        os.makedirs(kept, exist_ok=True)
+        flags = ["--jobs", "1", "--incremental", kept]
         run = subprocess.Popen(
-            command,
-            cwd=self.folder,
-            env={**os.environ, "RT_JOBS": "1", "RT_CUT": "0"},
+            [f"{kit.folder()}/bin/rattle", "check", *kit.words(self.every, self.every[crate], *flags)],
+            cwd=self.path(f"crates/{crate}"),
+            stdin=subprocess.DEVNULL,
             stdout=subprocess.PIPE,
             stderr=subprocess.STDOUT,
             text=True,
@@ -68,6 +71,8 @@ class Copy:
     def prove(self, crate):
         """The seconds that a check of the untouched crate takes, once its dependencies are proved."""
         if crate not in self.seconds:
+            if not kit.libraries(self.every, self.every[crate]):
+                raise SystemExit(f"a library below {crate} is not proved")
             start = time.time()
             status, said = self.check(crate)
             if status != 0:
@@ -76,7 +81,7 @@ class Copy:
         return self.seconds[crate]
 
     def judge(self, crate, texts, name, limit):
-        """The verdict on a crate with these texts in place of its files'; what was said goes to target/mutate/log."""
+        """The verdict on a crate with these texts in place of its files'; what was said goes to the folder log."""
         seconds = self.prove(crate)
         old = {file: self.read(file) for file in texts}
         try:
@@ -102,7 +107,8 @@ def verdict(status, said):
 
 
 def shows_nothing(said):
-    """Whether every error but those that follow from it is about the goal's shape."""
-    errors = [line for line in said.splitlines() if ": error: " in line]
-    own = [line for line in errors if "was not admitted" not in line]
+    """Whether all that is said but what follows from it is about the goal's shape."""
+    told = [line for line in said.splitlines() if re.match(r"(note: )?\S+:\d+:\d+:", line)]
+    told = [line for line in told if ": error" in line or line.startswith("note: ")] or told
+    own = [line for line in told if "was not admitted" not in line]
     return bool(own) and all(OTHER_SHAPE.search(line) for line in own)

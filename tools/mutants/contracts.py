@@ -2,15 +2,16 @@
 
 from mutants.edits import Edit, exchanged, ordered, pairs
 
-NOTHING = "λ r. ⌜ Unit {0} ⌝"
-NEVER = "requires { ⌜ ⊥ ⌝ }\n    "
+NOTHING = "Unit {0}"
+NEVER = "requires { ⊥ }\n    "
 
 
 def weakened(tokens, clause):
     """A clause of what is ensured that says nothing."""
     word, start, end = clause
     if word == "ensures":
-        yield Edit("ensures nothing", tokens[start + 2].start, tokens[end - 2].end, NOTHING)
+        opened = start + 1 if tokens[start + 1].text == "{" else start + 2
+        yield Edit("ensures nothing", tokens[opened + 1].start, tokens[end - 2].end, NOTHING)
 
 
 def asked(tokens, function):

@@ -51,7 +51,7 @@ class Repository:
     def __init__(self, root):
         self.root = root
         lines = (line.split("#")[0] for line in self.read("crates.txt").splitlines())
-        self.crates = [line.split(":")[0].strip() for line in lines if ":" in line]
+        self.crates = [line.split(":")[0].split()[0] for line in lines if ":" in line]
         self.declared = Declarations()
         for crate in self.crates:
             for file in self.sources(crate):
@@ -78,7 +78,8 @@ class Repository:
         return [(before + function.full, function) for function in functions_of(tokens)]
 
     def has_proof(self, crate, name):
-        return os.path.isfile(os.path.join(self.folder(crate), "proofs", *name.split("::"), "Proof.antt"))
+        folder = os.path.join(self.folder(crate), "proofs", *name.split("::"))
+        return any(os.path.isfile(os.path.join(folder, file)) for file in ("Answers.antt", "Proof.antt"))
 
     def mutants(self, crate):
         found = []

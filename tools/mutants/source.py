@@ -109,8 +109,9 @@ def read_function(tokens, i, owner):
         answer.append(tokens[k].text)
         k += 1
     clauses = []
-    while tokens[k].text in ("requires", "ensures"):
-        end = closing(tokens, k + 1) + 1
+    while tokens[k].text in ("requires", "ensures"):  # with a name or without
+        opened = k + 1 if tokens[k + 1].text == "{" else k + 2
+        end = closing(tokens, opened) + 1
         clauses.append((tokens[k].text, k, end))
         k = end
     name = tokens[i + 1].text

@@ -5,16 +5,16 @@ An edit is a list of (old text, new text); each old text stands exactly once in 
 
 BYPASSES = [
     ("constant array of 576 codes", "an entry of the table is another code", [
-        ("    2, // 4 then 4", "    3, // 4 then 4"),
+        ("2, // 4 then 4", "3, // 4 then 4"),
     ]),
     ("constant array of 576 codes", "the table is kept as words", [
         ("pub const THEN: [u8; 576] = [", "pub const THEN: [u64; 576] = ["),
     ]),
     ("table read at a variable index", "an entry is reckoned", [
-        ("        _ => THEN[24 * a + b],\n", "        _ => packed_entry(a, b),\n"),
+        ("    THEN[24 * a + b]\n", "    packed_entry(a, b)\n"),
     ]),
     ("table read at a variable index", "an entry is read at a fixed place", [
-        ("        _ => THEN[24 * a + b],\n", "        _ => THEN[24],\n"),
+        ("    THEN[24 * a + b]\n", "    THEN[24]\n"),
     ]),
     ("code struct with methods by value", "then is lent its code", [
         ("pub fn then(self, next: Code) -> Code", "pub fn then(&self, next: Code) -> Code"),
@@ -48,22 +48,6 @@ BYPASSES = [
             "    let around = rest | single(q);\n    let sixes = before_each(S_DAG);\n",
             "    let around = rest | single(q);\n    let sixes = row_of_six();\n",
         ),
-    ]),
-    ("one composition", "a gate of a run reckons its code", [
-        ("    codes[q] = compose_by(table, codes[q], k);\n", "    codes[q] = codes[q] ^ k;\n"),
-    ]),
-    ("lent table", "a run is lent another array", [
-        (
-            "    let table = composition_table();\n    let mut word = used;\n",
-            "    let table = [0u8; 576];\n    let mut word = used;\n",
-        ),
-    ]),
-    ("lent table", "the lent table is not read", [
-        ("    table[24 * a + b]\n", "    packed_entry(a, b)\n"),
-    ]),
-    ("lent table", "a method reckons beside the lent table", [
-        ("            index: lent_entry(table, self.index, next.index),\n",
-         "            index: lent_entry(table, self.index, next.index) ^ 0,\n"),
     ]),
     ("inverse", "the codes that undo a record's are not asked for", [
         ("        let undone = code.inverse();\n", "        let undone = undone_by_digits(code);\n"),
@@ -180,7 +164,7 @@ BYPASSES = [
     ]),
     ("lent slice of step structs", "a job is run from parallel slices", [
         (
-            "    let used = run_steps(n, neighbours, codes, 0, steps, count, 0, answers, &table);\n",
+            "    let used = run_steps(n, neighbours, codes, 0, steps, count, 0, answers);\n",
             "    let used = run_numbers(n, neighbours, codes, 0, count, ops, a, b, values, answers);\n",
         ),
     ]),

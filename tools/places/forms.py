@@ -94,52 +94,6 @@ def table_read(world):
     return world.missing(COMPOSING, found, "the composition table, read at a variable index")
 
 
-LENT_TABLE = "& [ u8 ; 576 ]"
-
-
-def arguments(body, i):
-    """The arguments in the bracket at place i, each as its words."""
-    found, depth = [[]], 0
-    for word in bracket(body, i):
-        depth += (word in "([{") - (word in ")]}")
-        if word == "," and depth == 0:
-            found.append([])
-        else:
-            found[-1].append(word)
-    return [one for one in found if one]
-
-
-def indexed(body, names):
-    """Whether one of these arrays is read at a place that is not a number alone."""
-    return any(word in names and body[i + 1] == "[" and any(re.match(r"[a-z]", one) for one in bracket(body, i + 1))
-               for i, word in enumerate(body[:-1]))
-
-
-def lent_tables(world):
-    """An array of 576 codes that is lent is the constant: bound to it, or answered by a function that answers it. Who is
-    lent it reads it or lends it on, and a method of the code struct that composes by it reckons nothing."""
-    asked = {item.name: [kind for name, kind in parameters(item).items() if name != "self"] for item in world.functions}
-    lent = {name: kinds.index(LENT_TABLE) for name, kinds in asked.items() if LENT_TABLE in kinds}
-    names = {item.name for item in tables(world)}
-    names |= {item.name for item in world.functions if item.function.answer == "[ u8 ; 576 ]" and set(item.body()) & names}
-    wrong = []
-    for item in world.functions:
-        body, passed = item.body(), False
-        bound = {name for name, kind in parameters(item).items() if kind == LENT_TABLE}
-        held = set(re.findall(rf"let (\w+) = (?:\w+ :: )*(?:{'|'.join(names)})(?: \( \))? ;", " ".join(body)))
-        for i, word in enumerate(body[:-1]):
-            if word in lent and body[i + 1] == "(":
-                given = (arguments(body, i + 1)[lent[word]:] or [["nothing"]])[0]
-                passed = passed or given[0] in bound
-                if not (len(given) == 1 and given[0] in bound or len(given) == 2 and given[0] == "&" and given[1] in held):
-                    wrong.append(f"{lines_of(item)} lends {word} another array for the composition table")
-        if bound and not passed and not indexed(body, bound):
-            wrong.append(f"{lines_of(item)} is lent the composition table and does not read it")
-        if bound and item.owner and ARITHMETIC & set(body):
-            wrong.append(f"{lines_of(item)} reckons: {' '.join(sorted(ARITHMETIC & set(body)))}")
-    return wrong
-
-
 # ---- the code struct
 
 def methods(world):
@@ -196,12 +150,11 @@ def given_to_codes(body):
 
 
 def one_composition(world):
-    """No other composition: what promises a composed code reaches the table, or is lent it; no code is reckoned into a
-    record."""
+    """No other composition: what promises a composed code reaches the table; no code is reckoned into a record."""
     then, inverse = world.promises.definition("then"), world.promises.definition("inverse")
     wrong = [
         f"{lines_of(item)} promises a composed code and does not read the composition table"
-        for item in world.ensured(then, tables(world), but=inverse) if LENT_TABLE not in parameters(item).values()
+        for item in world.ensured(then, tables(world), but=inverse)
     ]
     for item in world.functions:
         for words in given_to_codes(item.body()):
@@ -217,7 +170,7 @@ def inverse_reached(world):
         return ["there is no method inverse"]
     wrong = world.missing(["compare", "compare_records", "equivalent", "equivalent_records"], [found], "inverse")
     for item in world.promising(world.promises.definition("inverse")):
-        if "codeOf" in " ".join(item.clauses("ensures")) and found not in world.way(item):
+        if "code_of" in " ".join(item.clauses("ensures")) and found not in world.way(item):
             wrong.append(f"{lines_of(item)} promises the code of an inverse and does not ask the method inverse")
     return wrong
 
@@ -284,7 +237,7 @@ def class_match(world):
 
 def image_bits(world):
     """The image rule begins with the bits C and D of the match, at each vertex."""
-    rule = world.promising(world.promises.definition("imageList", "moves"))
+    rule = world.promising(world.promises.definition("image_list", "moves"))
     tracked = {item.function.answer for item in rule}
     starts = [
         item for item in world.functions
@@ -325,7 +278,7 @@ def lent_rows(world):
 def reductions(world):
     """The functions that take the array of the reduction by value with one word of signs, work on it, and promise the
     reduced record."""
-    reduced = world.promises.definition("reduced", "withHadamard")
+    reduced = world.promises.definition("reduced", "with_hadamard")
     found = []
     for item in world.promising(reduced):
         given = parameters(item)
@@ -368,7 +321,7 @@ def smallest(world):
     if not own:
         return ["no call reaches trailing zeros"]
     wrong = []
-    for item in world.promising(world.promises.definition("moves", "imageList")):
+    for item in world.promising(world.promises.definition("moves", "image_list")):
         if not set(own) & ({item} | world.sources.named(item)):
             wrong.append(f"{lines_of(item)} finds the smallest vertex without trailing zeros")
     return wrong + world.missing(["image", "complement", "gate", "reduce", "measure"], own, "trailing zeros")
@@ -476,7 +429,6 @@ PLACES = {
     "code struct with methods by value": code_struct,
     "then": then_reads,
     "one composition": one_composition,
-    "lent table": lent_tables,
     "inverse": inverse_reached,
     "image of a letter": image_reached,
     "match on the class, bits C and D": class_match,

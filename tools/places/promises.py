@@ -5,7 +5,7 @@ import re
 from reading import antt, rattle
 from reading.tree import Tree
 
-CODES = ("codeOf", "cliffordOf", "then", "inverse", "image", "bitC", "bitD")
+CODES = ("code_of", "clifford_of", "then", "inverse", "image", "bit_c", "bit_d")
 
 
 class Promises:
@@ -56,7 +56,7 @@ class Promises:
 
     def bits_of_a_code(self):
         """The definitions that are a Boolean of a code and are, or name, its bit C or D."""
-        bits, found = {self.definition("bitC"), self.definition("bitD")}, set()
+        bits, found = {self.definition("bit_c"), self.definition("bit_d")}, set()
         for path in self.tree.specs():
             for one in self.tree.sources[path].definitions:
                 boolean = re.search(r":\s*Clifford → Bool\s*$", one.code.split("\n")[0])

@@ -43,7 +43,7 @@ class World:
     def only_number(self, item):
         """Whether a function promises nothing but the number of a refusal."""
         clauses = item.clauses("ensures")
-        return bool(clauses) and all("r ≡ firstFitting" in clause for clause in clauses)
+        return bool(clauses) and all("result ≡ first_fitting" in clause for clause in clauses)
 
     def ensured(self, definition, goals, but=None):
         """The reached functions that promise by a definition, not through another, and reach none of the goals."""

@@ -6,7 +6,7 @@ from dataclasses import dataclass, field
 MARKS = r"(?:(?:unfoldable|abbrev|axiom|pub)\s+)*"
 HEAD = re.compile(rf"^{MARKS}(record|data)\s+(\S+)")
 SIGNATURE = re.compile(rf"^{MARKS}([^\s(){{}};,=]+(?:\s+[^\s(){{}};,=]+)*)\s+:(?:\s|$)")
-SPLIT = re.compile(r"[\s(){}\[\];,λ⌜⌝]+")
+SPLIT = re.compile(r"[\s(){}\[\];,λ«»]+")
 NO_NAMES = {"record", "data", "where", "let", "in", "elim", "do", "pub", "unfolding", "unfoldable", "abbrev", "=", ":", "→"}
 
 
@@ -179,8 +179,8 @@ def parse(path):
 
 
 def pieces(name):
-    """The parts of a name as they stand in a text: those of `_⊕_` are `⊕`."""
-    return [part for part in name.split("_") if part] if "_" in name else [name]
+    """The parts of a name as they stand in a text: those of `◌⊕◌` are `⊕`."""
+    return [part for part in name.split("◌") if part] if "◌" in name else [name]
 
 
 def tokens(text):

@@ -18,7 +18,7 @@ def listed(root):
                 sections.append((line[2:].strip(), []))
             elif ":" in line.split("#")[0]:
                 name, _, rest = line.split("#")[0].partition(":")
-                sections[-1][1].append((name.strip(), rest.split()))
+                sections[-1][1].append((name.split()[0], rest.split()))
     return [section for section in sections if section[1]]
 
 
@@ -88,7 +88,7 @@ class Crates:
 
     def direct(self, crate):
         """The crates that this one names, or whose structs and enums it passes."""
-        named = set(re.findall(r"Rattle·(\w+)", self.whole[crate]))
+        named = set(re.findall(r"\bRattle\.(\w+)", self.whole[crate]))
         named |= set(re.findall(r"(?<![\w:])(\w+)::", self.source[crate]))
         found = (named & self.names) | self.passed(crate) | (named & set(KIT))
         return found - {crate}

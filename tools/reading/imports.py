@@ -6,7 +6,7 @@ import re
 
 USE = re.compile(r"^(?:ghost )?use ([^\s{;]+?)(?:(?:\.|::)\{([^}]*)\})?(?: as ([^\s;]+))?;?$", re.M)
 COMMENT = re.compile(r"//.*|^\s*--.*|\s--\s.*", re.M)
-BETWEEN = re.compile(r"[\s(){},;.⌜⌝«»]+|::")
+BETWEEN = re.compile(r"[\s(){},;.«»]+|::")
 
 
 def names_of(use):
@@ -20,9 +20,8 @@ def names_of(use):
 
 
 def has(words, name):
-    """Whether a name is among the words: whole, or an operator such as `_≡_` by what stands between its places."""
-    operator = "_" in (name[0], name[-1])
-    return name in words or operator and all(part in words for part in name.split("_") if part)
+    """Whether a name is among the words: whole, or an operator such as `◌≡◌` by what stands between its places."""
+    return name in words or "◌" in name and all(part in words for part in name.split("◌") if part)
 
 
 def unused_in(text):

@@ -7,7 +7,7 @@ from dataclasses import dataclass, field
 
 from . import antt, rattle
 
-MODULE = re.compile(r"Rattle·(\w+?)(?:·(?:specs|proofs))?\.(specs|proofs)(?:\.(.*))?$")
+MODULE = re.compile(r"Rattle\.(\w+)\.(specs|proofs)(?:\.(.*))?$")
 
 
 @dataclass(eq=False)

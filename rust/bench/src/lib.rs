@@ -3,14 +3,11 @@
 pub mod calls;
 pub mod drawn;
 pub mod load;
-pub mod older;
 pub mod pairs;
 pub mod plain;
 pub mod runs;
 pub mod session;
 mod timing;
-
-pub use timing::{other_version, repeats};
 
 #[path = "../../sukhlent/tests/common/codes.rs"]
 pub mod codes;

@@ -30,28 +30,6 @@ pub fn unmeasured(n: u64, count: usize, seed: u64) -> Vec<Operation> {
         .collect()
 }
 
-/// The steps of such a job that name no qubit which one of them has measured: each is measured once at most.
-pub fn measured_once(n: u64, count: usize, seed: u64) -> Vec<Operation> {
-    let mut used = [false; 64];
-    let mut job = steps(n, count, seed);
-    job.retain(|&step| {
-        let alive = (0..n as usize).all(|q| !(used[q] && step.names(q)));
-        if let (true, Operation::Measure(_, q, _)) = (alive, step) {
-            used[q as usize] = true;
-        }
-        alive
-    });
-    job
-}
-
-/// The first so many gates of such a job.
-pub fn gates(n: u64, count: usize, seed: u64) -> Vec<Operation> {
-    let all = Draws::new(seed).map(|d| step(n, d));
-    all.filter(|step| matches!(step, Operation::Gate(..)))
-        .take(count)
-        .collect()
-}
-
 /// The gate H.
 fn hadamard(q: u64) -> Operation {
     Operation::Gate(q, 8)

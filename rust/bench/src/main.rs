@@ -1,21 +1,9 @@
-//! Times of the engine's calls beside plain Rust, and of some beside others, as two tables. With the path of
-//! a shared library of another version: the comparisons beside that one.
+//! Times of the engine's calls beside plain Rust, and of some beside others, as two tables.
 
 use bench::calls::{
     amplitude, compare, compare_records, generate, graphs, group_stores, groups, image, in_place,
-    orbit, parity, product, record_texts, reduce, source, stores, strings, values, Line,
+    orbit, parity, product, reduce, stores, strings, values, Line,
 };
-use bench::older;
-
-/// Sizes of components of the pairs of lists, and what they are called.
-const LISTS: [(&[usize], &str); 3] = [
-    (&[1; 64], "equivalent pairs, 64 components of one"),
-    (&[2; 32], "equivalent pairs, 32 components of two"),
-    (
-        &[20, 20, 20, 4],
-        "equivalent pairs, components of 20, 20, 20, 4",
-    ),
-];
 
 /// Sizes of components of the pairs of records, and what they are called.
 const RECORDS: [(&[usize], &str); 2] = [
@@ -38,38 +26,13 @@ const BESIDE_LISTS: [(&[usize], &str); 2] = [
 ];
 
 fn main() {
-    match bench::other_version() {
-        Some(path) => beside_older(&path),
-        None => tables(),
-    }
-}
-
-/// The comparisons beside the version in a shared library.
-fn beside_older(path: &str) {
-    println!("beside version {} in {path}", older::load(path));
-    println!("{}", Line::OLDER);
-    for n in [10, 20] {
-        println!("{}", compare::beside_older(n, true));
-        println!("{}", compare::beside_older(n, false));
-    }
-    for (sizes, name) in LISTS {
-        println!("{}", compare::components_beside_older(sizes, name));
-    }
-    for (sizes, name) in RECORDS {
-        println!("{}", compare_records::beside_older(sizes, name));
-    }
-}
-
-fn tables() {
     println!("{}", Line::HEAD);
     for n in [8, 16, 32, 64] {
         println!("{}", reduce::line(n));
     }
     for kind in in_place::KINDS {
-        println!("{}", in_place::line(kind, 64));
+        println!("{}", in_place::line(kind));
     }
-    println!("{}", source::observing(64));
-    println!("{}", source::renewing(64));
     for n in [16, 64] {
         println!("{}", image::line(n));
     }
@@ -77,7 +40,14 @@ fn tables() {
         println!("{}", compare::line(n, true));
         println!("{}", compare::line(n, false));
     }
-    for (sizes, name) in LISTS {
+    for (sizes, name) in [
+        (&[1; 64][..], "equivalent pairs, 64 components of one"),
+        (&[2; 32], "equivalent pairs, 32 components of two"),
+        (
+            &[20, 20, 20, 4],
+            "equivalent pairs, components of 20, 20, 20, 4",
+        ),
+    ] {
         println!("{}", compare::components(sizes, name));
     }
     for (sizes, name) in RECORDS {
@@ -89,8 +59,6 @@ fn tables() {
         println!("{}", strings::reading_alone(n));
         println!("{}", strings::writing(n));
     }
-    println!("{}", record_texts::reading(64));
-    println!("{}", record_texts::writing(64));
     println!("{}", orbit::line());
     println!("{}", graphs::complementing(64));
     println!("{}", graphs::cutting(64));
@@ -100,8 +68,7 @@ fn tables() {
     println!("{}", values::expectation(64));
     println!("{}", parity::measure_row(64));
     for n in [8, 64] {
-        println!("{}", amplitude::line(n, false));
-        println!("{}", amplitude::line(n, true));
+        println!("{}", amplitude::line(n));
     }
     println!("{}", stores::saving(64));
     println!("{}", stores::returning(64));

@@ -1,4 +1,4 @@
-//! Many steps in one call, and the same steps on a tableau, or on another state that checks nothing.
+//! Many steps in one call, and the same steps on a tableau.
 //!
 //! A run keeps the used word from step to step. So that both ways do the same, a tableau passes over the steps that name
 //! a used qubit, or the run is cut behind each measurement and goes on with no used qubit.

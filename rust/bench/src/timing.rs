@@ -1,23 +1,10 @@
-//! Median times, and how often a bench runs what it times.
+//! Median times.
 
 use std::hint::black_box;
 use std::time::Instant;
 
 /// The number of timed samples. They are short, so that few of them are interrupted.
 const SAMPLES: usize = 2000;
-
-/// So many times, or once where the word `--quick` is given: to see that a bench runs, and what its rows are called.
-pub fn repeats(count: usize) -> usize {
-    match std::env::args().any(|word| word == "--quick") {
-        true => 1,
-        false => count,
-    }
-}
-
-/// The path of another version of the library: the first word that is not `--quick`.
-pub fn other_version() -> Option<String> {
-    std::env::args().skip(1).find(|word| word != "--quick")
-}
 
 /// A sample that is ready to run. Its answer depends on all that it does, so that nothing is left
 /// out.
@@ -33,7 +20,7 @@ pub type Work<C> = for<'a> fn(&'a [C]) -> Ready<'a>;
 pub fn medians<C, const N: usize>(cases: &[C], at_once: usize, works: [Work<C>; N]) -> [f64; N] {
     let samples: Vec<&[C]> = cases.chunks_exact(at_once).collect();
     let mut times: [Vec<u128>; N] = std::array::from_fn(|_| Vec::new());
-    for turn in 0..repeats(SAMPLES) {
+    for turn in 0..SAMPLES {
         for (k, (work, times)) in works.iter().zip(&mut times).enumerate() {
             let mut ready = work(samples[(turn + k * samples.len() / N) % samples.len()]);
             let start = Instant::now();

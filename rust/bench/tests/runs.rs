@@ -1,14 +1,13 @@
-//! Many steps in one call answer what both tableaux and the graph do, step by step, and leave their state.
+//! Many steps in one call answer what both tableaux do, step by step, and leave their state.
 
-use bench::load::{cluster, gates, ghz, steps, unmeasured};
+use bench::load::{cluster, ghz, steps, unmeasured};
 use bench::operation::Operation;
 use bench::runs::{cut, tableau, whole, Steps};
-use bench::session::{Columns, Graph, Plain, Session};
+use bench::session::{Columns, Plain, Session};
 
-/// In one call and cut behind each measurement, against both tableaux and the graph; how many steps the call refuses by 16.
+/// In one call and cut behind each measurement, against both tableaux; how many steps the call refuses by 16.
 fn used(n: usize, job: &[Operation]) -> usize {
     beside::<Columns>(n, job);
-    beside::<Graph>(n, job);
     beside::<Plain>(n, job)
 }
 
@@ -48,7 +47,6 @@ fn jobs_on_every_number_of_qubits() {
 fn the_loads_beside_the_job() {
     for n in [2, 16, 32, 64] {
         assert_eq!(used(n as usize, &unmeasured(n, 4096, 7)), 0);
-        assert_eq!(used(n as usize, &gates(n, 4096, 7)), 0);
         assert_eq!(used(n as usize, &ghz(n, 7)), 0);
         assert_eq!(used(n as usize, &cluster(n, 7)), 0);
     }

@@ -2,7 +2,7 @@
 //! generator lists or as records of a graph with one local Clifford per vertex.
 //!
 //! A package depends on it by its path, `sukhlent = { path = "CLONE/rust/sukhlent" }`. It links the
-//! static library of the clone, which `rt staticlib sukhlent` writes, or the one in the folder that
+//! static library of the clone, which `tools/build sukhlent` writes, or the one in the folder that
 //! the variable SUKHLENT_LIB names.
 //!
 //! ```

@@ -47,8 +47,8 @@ pub const ORBIT_PLACES: usize = 32_768;
 /// The version of the library: major * 10000 + minor * 100 + patch.
 ///
 /// ```
-/// // The major number.
-/// assert_eq!(sukhlent::raw::version() / 10_000, 1);
+/// // Before 1.0 the major number is 0.
+/// assert_eq!(sukhlent::raw::version() / 10_000, 0);
 /// ```
 pub fn version() -> u32 {
     extern "C" {

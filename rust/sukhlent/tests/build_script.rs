@@ -10,7 +10,7 @@ fn a_missing_library_is_told_with_what_to_run() {
     let nowhere = Path::new(env!("CARGO_MANIFEST_DIR")).join("src");
     let message = build::found(&nowhere).unwrap_err();
     assert!(message.contains(&format!("no libsukhlent.a in {}", nowhere.display())));
-    assert!(message.contains("run `rt staticlib sukhlent`"));
+    assert!(message.contains("run `tools/build sukhlent`"));
     assert!(message.contains("SUKHLENT_LIB"));
 }
 

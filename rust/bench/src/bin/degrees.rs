@@ -1,7 +1,6 @@
 //! Times of gate, CZ and measurement at several mean degrees of the graph, on 64 qubits, beside the plain tableau.
 
 use bench::calls::in_place::{at_degree, check_at_degree, KINDS};
-use bench::repeats;
 
 /// The mean degrees.
 const DEGREES: [f64; 6] = [0.0, 1.5, 4.0, 8.0, 16.0, 32.0];
@@ -16,18 +15,19 @@ const NAMES: [&str; 5] = [
 ];
 
 /// The rounds over all degrees, of which the least times are shown: the machine's clock changes between the rows of one.
-const ROUNDS: usize = 5;
+const ROUNDS: usize = 9;
 
 /// The times of a degree: the check alone, then each kind of call by the engine and by the tableau.
 type Row = [f64; 2 * KINDS.len() + 1];
 
 fn main() {
+    println!("Nanoseconds of a call by the engine, by the tableau, and the ratio:\n");
     println!("| degree | {} |", NAMES.join(" | "));
     println!("|---|{}", "---|".repeat(NAMES.len()));
     let mut rows = [[f64::MAX; 2 * KINDS.len() + 1]; DEGREES.len()];
-    for _ in 0..repeats(ROUNDS) {
+    for _ in 0..ROUNDS {
         for (row, degree) in rows.iter_mut().zip(DEGREES) {
-            let found = round(degree);
+            let found = times(degree);
             row.iter_mut().zip(found).for_each(|(t, f)| *t = t.min(f));
         }
     }
@@ -51,7 +51,7 @@ fn main() {
 }
 
 /// One round at a degree.
-fn round(degree: f64) -> Row {
+fn times(degree: f64) -> Row {
     let mut row = [0.0; 2 * KINDS.len() + 1];
     row[0] = check_at_degree(degree);
     for (kind, pair) in KINDS.into_iter().zip(row[1..].chunks_mut(2)) {

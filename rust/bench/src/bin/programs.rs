@@ -4,7 +4,6 @@
 #[path = "../../../sukhlent/tests/common/seeded/mod.rs"]
 mod seeded;
 
-use bench::repeats;
 use seeded::{list, random_rows, Random};
 use std::io::Write;
 use std::path::PathBuf;
@@ -65,7 +64,7 @@ fn stack(name: &str) -> usize {
 fn main() {
     let mut times = [f64::INFINITY; 2];
     let mut lengths = [0; 2];
-    for seed in 0..repeats(RUNS) as u64 {
+    for seed in 0..RUNS as u64 {
         let given = text(seed);
         for (k, name) in PROGRAMS.iter().enumerate() {
             let start = Instant::now();

@@ -6,7 +6,6 @@
 #[path = "../../../sukhlent/tests/common/seeded/mod.rs"]
 mod seeded;
 
-use bench::repeats;
 use seeded::{list, mixed, random_components, random_record, random_rows, rows, Random};
 use std::arch::asm;
 use sukhlent::{expand, raw, GeneratorList};
@@ -16,7 +15,7 @@ const ROOM: usize = 1 << 20;
 /// The byte that it is painted with.
 const PAINT: u8 = 0xa5;
 /// The number of seeded arguments for each call.
-const CASES: usize = 100;
+const CASES: u64 = 100;
 
 /// A call: its name, the number of qubits, and what is measured with a seed.
 type Measured = (&'static str, usize, fn(&mut Random, usize) -> usize);
@@ -422,7 +421,7 @@ fn depth(call: impl FnOnce() -> u8) -> usize {
 /// The most stack that each call of the table took.
 fn measure() -> Vec<usize> {
     let deepest = |(_, n, call): &Measured| {
-        let depths = (0..repeats(CASES) as u64).map(|seed| call(&mut Random::new(seed), *n));
+        let depths = (0..CASES).map(|seed| call(&mut Random::new(seed), *n));
         depths.max().expect("some cases")
     };
     let thread = std::thread::Builder::new().stack_size(2 * ROOM);
@@ -453,9 +452,9 @@ mod tests {
     fn the_document_says_what_each_call_needs_within_a_fifth() {
         for ((name, n, _), bytes) in CALLS.iter().zip(measure()) {
             let row = row(name, *n);
-            let bytes_of = |line: &str| line.strip_prefix(&row)?.strip_suffix(" |")?.parse().ok();
-            let said: Option<usize> = SPEED.lines().find_map(bytes_of);
+            let said = SPEED.lines().find_map(|line| line.strip_prefix(&row));
             let said = said.unwrap_or_else(|| panic!("no line {row}"));
+            let said: usize = said.trim_end_matches(" |").parse().unwrap();
             assert!(
                 5 * bytes <= 6 * said && 4 * said <= 5 * bytes,
                 "{name} on {n}: {bytes} bytes, docs/SPEED.md says {said}"

@@ -1,10 +1,10 @@
-//! `amplitude` on random records and on reduced ones, at words whose amplitude is not 0.
+//! `amplitude` on random records, at words whose amplitude is not 0.
 
 use super::Line;
 use crate::plain;
 use crate::seeded::{random_record, Random};
 use crate::timing::Ready;
-use sukhlent::{expand, raw, reduce, Record};
+use sukhlent::{raw, Record};
 
 /// The signature that both calls have.
 pub type Amplitude = fn(u64, &[u64], &[u8], u64, u64, &mut f64, &mut f64, &mut f64) -> u8;
@@ -17,32 +17,19 @@ const AT_ONCE: usize = 8;
 /// A record and a word.
 type Case = (Record, u64);
 
-/// The line of n qubits, on records with any codes or on reduced ones.
-pub fn line(n: usize, reduced: bool) -> Line {
-    let cases = cases(n, reduced);
+/// The line of n qubits.
+pub fn line(n: usize) -> Line {
+    let cases = cases(n);
     cases.iter().for_each(assert_same_answers);
-    let name = if reduced {
-        "reduced records, words that are not nothing"
-    } else {
-        "random records, words that are not nothing"
-    };
-    Line::measured(
-        ("amplitude", n, name),
-        &cases,
-        AT_ONCE,
-        [engine, in_plain_rust],
-    )
+    let names = ("amplitude", n, "random records, words that are not nothing");
+    Line::measured(names, &cases, AT_ONCE, [engine, in_plain_rust])
 }
 
-/// Seeded records, each with a word.
-fn cases(n: usize, reduced: bool) -> Vec<Case> {
+/// Seeded records with any codes, each with a word.
+fn cases(n: usize) -> Vec<Case> {
     let mut random = Random::new(n as u64);
     let one = |_| {
-        let mut record = random_record(&mut random, n);
-        if reduced {
-            let list = expand(&record).expect("a record has generators");
-            record = reduce(&list).expect("they are a list");
-        }
+        let record = random_record(&mut random, n);
         let chosen = random.word() >> (64 - n);
         let y = plain::supported_word(&record.neighbours, &record.codes, chosen);
         (record, y)

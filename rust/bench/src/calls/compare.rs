@@ -1,11 +1,10 @@
 //! `compare` on pairs of lists.
 
 use super::Line;
-use crate::older;
 use crate::pairs::{equivalent, inequivalent, Pair};
 use crate::plain;
 use crate::seeded::{random_components, random_record, Random};
-use crate::timing::{Ready, Work};
+use crate::timing::Ready;
 use sukhlent::raw::{self, Lent};
 use sukhlent::GeneratorList;
 
@@ -25,17 +24,8 @@ pub(super) struct Answer {
     pub(super) count: u64,
 }
 
-/// The line of n qubits, on pairs that are equivalent or on pairs that are not, beside plain Rust.
+/// The line of n qubits, on pairs that are equivalent or on pairs that are not.
 pub fn line(n: usize, are_equivalent: bool) -> Line {
-    measured(n, are_equivalent, in_plain_rust)
-}
-
-/// The same beside the other version that was loaded.
-pub fn beside_older(n: usize, are_equivalent: bool) -> Line {
-    measured(n, are_equivalent, by_older)
-}
-
-fn measured(n: usize, are_equivalent: bool, other: Work<Pair>) -> Line {
     let (pairs, name, number) = if are_equivalent {
         (pairs(n, equivalent), "equivalent pairs of random graphs", 0)
     } else {
@@ -49,20 +39,16 @@ fn measured(n: usize, are_equivalent: bool, other: Work<Pair>) -> Line {
     pairs
         .iter()
         .for_each(|pair| assert_same_answers(pair, number));
-    Line::measured(("compare", n, name), &pairs, AT_ONCE, [engine, other])
+    Line::measured(
+        ("compare", n, name),
+        &pairs,
+        AT_ONCE,
+        [engine, in_plain_rust],
+    )
 }
 
-/// The line of 64 qubits in components of these sizes, on equivalent pairs, beside plain Rust.
+/// The line of 64 qubits in components of these sizes, on equivalent pairs.
 pub fn components(sizes: &[usize], name: &'static str) -> Line {
-    components_beside(sizes, name, in_plain_rust)
-}
-
-/// The same beside the other version that was loaded.
-pub fn components_beside_older(sizes: &[usize], name: &'static str) -> Line {
-    components_beside(sizes, name, by_older)
-}
-
-fn components_beside(sizes: &[usize], name: &'static str, other: Work<Pair>) -> Line {
     let mut random = Random::new(64);
     let one = |_| {
         let graph = random_components(&mut random, sizes).neighbours;
@@ -71,21 +57,12 @@ fn components_beside(sizes: &[usize], name: &'static str, other: Work<Pair>) -> 
     let pairs: Vec<Pair> = (0..PAIRS).map(one).collect();
     pairs.iter().for_each(|pair| assert_same_answers(pair, 0));
     let n = sizes.iter().sum();
-    Line::measured(("compare", n, name), &pairs, AT_ONCE, [engine, other])
-}
-
-/// The line of `equivalent` on n qubits, with nothing beside it: plain Rust takes parts of up to 20.
-pub fn equivalence(n: usize) -> Line {
-    let pairs = pairs(n, equivalent);
-    for pair in &pairs {
-        assert_eq!(Answer::empty().write(raw::equivalent, pair), 0);
-    }
-    let names = ("equivalent", n, "equivalent pairs of random graphs");
-    Line::alone(names, &pairs, (AT_ONCE, 1), of_any_size)
-}
-
-fn of_any_size(pairs: &[Pair]) -> Ready<'_> {
-    Box::new(|| run(raw::equivalent, pairs))
+    Line::measured(
+        ("compare", n, name),
+        &pairs,
+        AT_ONCE,
+        [engine, in_plain_rust],
+    )
 }
 
 /// Seeded pairs, each of a random graph on n vertices and another.
@@ -104,10 +81,6 @@ fn engine(pairs: &[Pair]) -> Ready<'_> {
 
 fn in_plain_rust(pairs: &[Pair]) -> Ready<'_> {
     Box::new(|| run(plain::compare, pairs))
-}
-
-fn by_older(pairs: &[Pair]) -> Ready<'_> {
-    Box::new(|| run(older::compare, pairs))
 }
 
 /// Compares every pair. The answer buffers are used again and again, and not cleared between.

@@ -4,7 +4,6 @@
 use super::compare::{Answer, Compare};
 use super::values::Expand;
 use super::Line;
-use crate::older;
 use crate::pairs::equivalent;
 use crate::plain;
 use crate::seeded::{random_components, Random};
@@ -29,11 +28,6 @@ pub fn line(sizes: &[usize], name: &'static str) -> Line {
 /// The same beside the calls `expand`, `expand` and `compare`.
 pub fn beside_lists(sizes: &[usize], name: &'static str) -> Line {
     measured(sizes, name, by_lists)
-}
-
-/// The same beside the other version that was loaded.
-pub fn beside_older(sizes: &[usize], name: &'static str) -> Line {
-    measured(sizes, name, by_older)
 }
 
 fn measured(sizes: &[usize], name: &'static str, other: Work<Pair>) -> Line {
@@ -66,10 +60,6 @@ fn by_lists(pairs: &[Pair]) -> Ready<'_> {
     Box::new(|| run(of_lists, pairs))
 }
 
-fn by_older(pairs: &[Pair]) -> Ready<'_> {
-    Box::new(|| run(in_older, pairs))
-}
-
 /// Compares every pair.
 fn run(way: fn(&Pair, &mut Answer) -> u8, pairs: &[Pair]) -> u64 {
     let mut answer = Answer::empty();
@@ -79,25 +69,19 @@ fn run(way: fn(&Pair, &mut Answer) -> u8, pairs: &[Pair]) -> u64 {
     })
 }
 
-fn by_call(pair: &Pair, answer: &mut Answer) -> u8 {
-    compared(raw::compare_records, pair, answer)
-}
-
-fn in_older(pair: &Pair, answer: &mut Answer) -> u8 {
-    compared(older::compare_records, pair, answer)
-}
-
-/// A comparison of records.
-type OfRecords = fn(raw::LentGraph, raw::LentGraph, &mut [u8], &mut [u8], &mut u64) -> u8;
-
-fn compared(compare: OfRecords, (first, second): &Pair, answer: &mut Answer) -> u8 {
+fn by_call((first, second): &Pair, answer: &mut Answer) -> u8 {
     let Answer {
         choice,
         list,
         count,
     } = answer;
-    let choice = &mut choice[..first.n()];
-    compare(lent(first), lent(second), choice, list, count)
+    raw::compare_records(
+        lent(first),
+        lent(second),
+        &mut choice[..first.n()],
+        list,
+        count,
+    )
 }
 
 fn in_plain(pair: &Pair, answer: &mut Answer) -> u8 {

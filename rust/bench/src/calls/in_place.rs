@@ -1,4 +1,4 @@
-//! Gate, CZ and measurement on a record, against a plain tableau.
+//! Gate, CZ and measurement on a record of 64 qubits, against a plain tableau.
 
 use super::Line;
 use crate::operation::Operation;
@@ -7,7 +7,7 @@ use crate::timing::{medians, Ready};
 use sukhlent::{reduce, GeneratorList, Record};
 use tableau::{Measured, Tableau};
 
-/// The number of qubits of the graphs of a degree.
+/// The number of qubits.
 const N: usize = 64;
 /// The number of states.
 const STATES: usize = 512;
@@ -28,7 +28,7 @@ type Draw<'a> = &'a dyn Fn(&mut Random) -> Tableau;
 pub type Kind = (
     &'static str,
     &'static str,
-    fn(&mut Random, usize, Draw<'_>) -> Case,
+    fn(&mut Random, Draw<'_>) -> Case,
 );
 
 /// The timed calls.
@@ -39,29 +39,29 @@ pub const KINDS: [Kind; 4] = [
     ("measure", "random states, determined", determined),
 ];
 
-/// The line of a kind of calls on random states of n qubits.
-pub fn line((call, name, case): Kind, n: usize) -> Line {
-    let cases = cases(case, n, &|random| generic(random, n));
-    Line::measured((call, n, name), &cases, AT_ONCE, [engine, in_plain_rust])
+/// The line of a kind of calls on random states.
+pub fn line((call, name, case): Kind) -> Line {
+    let cases = cases(case, &generic);
+    Line::measured((call, N, name), &cases, AT_ONCE, [engine, in_plain_rust])
 }
 
 /// The median times of a kind of calls on graphs of a mean degree, by the engine and by the tableau.
 pub fn at_degree((_, _, case): Kind, degree: f64) -> [f64; 2] {
-    let cases = cases(case, N, &|random| graph_state(random, degree));
+    let cases = cases(case, &|random| graph_state(random, degree));
     medians(&cases, AT_ONCE, [engine, in_plain_rust])
 }
 
 /// The median time of a gate that is refused by 8, and so of the check alone, on graphs of a mean degree.
 pub fn check_at_degree(degree: f64) -> f64 {
-    let cases = cases(gate, N, &|random| graph_state(random, degree));
+    let cases = cases(gate, &|random| graph_state(random, degree));
     let [time] = medians(&cases, AT_ONCE, [refused]);
     time
 }
 
 /// Seeded cases, on which both answer the same.
-fn cases(case: fn(&mut Random, usize, Draw<'_>) -> Case, n: usize, draw: Draw<'_>) -> Vec<Case> {
-    let mut random = Random::new(n as u64);
-    let cases: Vec<Case> = (0..STATES).map(|_| case(&mut random, n, draw)).collect();
+fn cases(case: fn(&mut Random, Draw<'_>) -> Case, draw: Draw<'_>) -> Vec<Case> {
+    let mut random = Random::new(N as u64);
+    let cases: Vec<Case> = (0..STATES).map(|_| case(&mut random, draw)).collect();
     cases.iter().for_each(assert_same_answers);
     cases
 }
@@ -74,7 +74,7 @@ fn engine(cases: &[Case]) -> Ready<'_> {
     let mut copies: Vec<_> = copies.collect();
     Box::new(move || {
         copies.iter_mut().fold(0, |sum, (record, operation)| {
-            sum ^ digest(on_record(record, *operation)) ^ record.neighbours[record.n() - 1]
+            sum ^ digest(on_record(record, *operation)) ^ record.neighbours[N - 1]
         })
     })
 }
@@ -101,7 +101,7 @@ fn in_plain_rust(cases: &[Case]) -> Ready<'_> {
     let mut copies: Vec<_> = copies.collect();
     Box::new(move || {
         copies.iter_mut().fold(0, |sum, (tableau, operation)| {
-            sum ^ digest(on_tableau(tableau, *operation)) ^ tableau.generators()[tableau.n() - 1].z
+            sum ^ digest(on_tableau(tableau, *operation)) ^ tableau.generators()[N - 1].z
         })
     })
 }
@@ -115,7 +115,7 @@ fn digest(measured: Option<Measured>) -> u64 {
 fn on_record(record: &mut Record, operation: Operation) -> Option<Measured> {
     let (mut outcome, mut determined) = (0, 0);
     let number = operation.call(
-        record.n() as u64,
+        N as u64,
         &mut record.neighbours,
         &mut record.codes,
         &mut 0,
@@ -164,21 +164,21 @@ fn case(tableau: Tableau, operation: Operation) -> Case {
     }
 }
 
-fn gate(random: &mut Random, n: usize, draw: Draw<'_>) -> Case {
-    let operation = Operation::Gate(random.below(n) as u64, random.below(24) as u8);
+fn gate(random: &mut Random, draw: Draw<'_>) -> Case {
+    let operation = Operation::Gate(random.below(N) as u64, random.below(24) as u8);
     case(draw(random), operation)
 }
 
-fn cz(random: &mut Random, n: usize, draw: Draw<'_>) -> Case {
-    let (a, b) = random.pair_below(n);
+fn cz(random: &mut Random, draw: Draw<'_>) -> Case {
+    let (a, b) = random.pair_below(N);
     case(draw(random), Operation::Cz(a as u64, b as u64))
 }
 
 /// A measurement whose outcome is not determined.
-fn chosen(random: &mut Random, n: usize, draw: Draw<'_>) -> Case {
+fn chosen(random: &mut Random, draw: Draw<'_>) -> Case {
     let tableau = draw(random);
     loop {
-        let (pauli, q, bit) = (1 + random.below(3), random.below(n), random.below(2));
+        let (pauli, q, bit) = (1 + random.below(3), random.below(N), random.below(2));
         let measured = tableau.clone().measure(pauli as u8, q, bit as u8);
         if measured.is_some_and(|measured| !measured.determined) {
             let operation = Operation::Measure(pauli as u8, q as u64, bit as u8);
@@ -188,21 +188,21 @@ fn chosen(random: &mut Random, n: usize, draw: Draw<'_>) -> Case {
 }
 
 /// The same measurement once more.
-fn determined(random: &mut Random, n: usize, draw: Draw<'_>) -> Case {
+fn determined(random: &mut Random, draw: Draw<'_>) -> Case {
     let Case {
         mut tableau,
         operation,
         ..
-    } = chosen(random, n, draw);
+    } = chosen(random, draw);
     on_tableau(&mut tableau, operation);
     case(tableau, operation)
 }
 
-/// The state that a random circuit makes on n qubits.
-pub(super) fn generic(random: &mut Random, n: usize) -> Tableau {
-    let circuit = Circuit::random(random, n, 10 * n);
-    let mut tableau = Tableau::zero(n);
-    for q in (0..n).filter(|q| circuit.start >> q & 1 == 1) {
+/// The state that a random circuit makes.
+fn generic(random: &mut Random) -> Tableau {
+    let circuit = Circuit::random(random, N, 10 * N);
+    let mut tableau = Tableau::zero(N);
+    for q in (0..N).filter(|q| circuit.start >> q & 1 == 1) {
         tableau.gate(q, 1);
     }
     for gate in circuit.gates {
@@ -236,7 +236,7 @@ fn graph_state(random: &mut Random, degree: f64) -> Tableau {
 }
 
 /// The reduced record of a tableau's group.
-pub(super) fn reduced(tableau: &Tableau) -> Record {
+fn reduced(tableau: &Tableau) -> Record {
     let rows = tableau.generators();
     let list = GeneratorList {
         signs: rows.iter().map(|row| row.sign()).collect(),

@@ -12,10 +12,7 @@ pub mod in_place;
 pub mod orbit;
 pub mod parity;
 pub mod product;
-pub mod record_texts;
 pub mod reduce;
-pub mod run;
-pub mod source;
 pub mod stores;
 pub mod strings;
 pub mod values;
@@ -30,11 +27,8 @@ pub struct Line {
     cases: &'static str,
     /// Times in nanoseconds.
     engine: f64,
-    plain: Option<f64>,
+    plain: f64,
 }
-
-/// The call, the number of qubits, and what the call is run on.
-type Names = (&'static str, usize, &'static str);
 
 impl Line {
     /// The names of the columns.
@@ -46,13 +40,9 @@ impl Line {
         "| call | n | run on; beside it | the call | beside it | ratio |\n\
                                       |---|---|---|---|---|---|";
 
-    /// Those of the table of comparisons beside another version of the library.
-    pub const OLDER: &'static str = "| call | n | run on | this library | the other | ratio |\n\
-                                     |---|---|---|---|---|---|";
-
     /// The times of a call over some cases, so many at once, by the engine and by what stands beside it.
     fn measured<C>(
-        (call, n, name): Names,
+        (call, n, name): (&'static str, usize, &'static str),
         cases: &[C],
         at_once: usize,
         works: [Work<C>; 2],
@@ -63,44 +53,15 @@ impl Line {
             n,
             cases: name,
             engine,
-            plain: Some(plain),
+            plain,
         }
-    }
-
-    /// The time of a call with nothing beside it, or of one of its parts, where it has so many.
-    fn alone<C>(
-        (call, n, name): Names,
-        cases: &[C],
-        (at_once, parts): (usize, usize),
-        work: Work<C>,
-    ) -> Line {
-        let [time] = medians(cases, at_once, [work]);
-        Line {
-            call,
-            n,
-            cases: name,
-            engine: time / parts as f64,
-            plain: None,
-        }
-    }
-
-    /// What the call is, and what it is run on.
-    pub fn names(&self) -> String {
-        format!("| {} | {} |", self.call, self.cases)
-    }
-
-    /// The time of the call.
-    pub fn time(&self) -> String {
-        micros(self.engine)
     }
 }
 
 impl fmt::Display for Line {
     fn fmt(&self, f: &mut fmt::Formatter<'_>) -> fmt::Result {
-        let none = || "-".to_string();
-        let plain = self.plain.map_or_else(none, micros);
-        let ratio = self.plain.map(|plain| digits(self.engine / plain));
-        let (engine, ratio) = (self.time(), ratio.unwrap_or_else(none));
+        let [engine, plain] = [self.engine, self.plain].map(micros);
+        let ratio = digits(self.engine / self.plain);
         let (call, n, cases) = (self.call, self.n, self.cases);
         write!(
             f,
@@ -109,15 +70,13 @@ impl fmt::Display for Line {
     }
 }
 
-/// Nanoseconds in microseconds.
-pub fn micros(nanoseconds: f64) -> String {
+fn micros(nanoseconds: f64) -> String {
     format!("{} µs", digits(nanoseconds / 1000.0))
 }
 
-/// A number with two or three digits.
+/// A number with about three digits.
 fn digits(number: f64) -> String {
     let places = match number {
-        ..0.0995 => 3,
         ..9.995 => 2,
         ..99.95 => 1,
         _ => 0,

@@ -1,141 +1,91 @@
-//! Times of `compare` over families of states on 20 qubits, of `equivalent` on 64, and brute force. With the
-//! path of a shared library of another version: beside the calls of that one.
+//! Times of `compare` over families of states on 20 qubits, of `equivalent` on 64, and brute force.
 
 mod brute;
 mod families;
 
-use bench::calls::compare::{lent, Compare};
-use bench::calls::micros;
 use bench::local::{complemented, sent};
 use bench::pairs::{self, differ, inequivalent, state, Pair};
-use bench::repeats;
+use bench::plain;
 use bench::seeded::Random;
-use bench::{older, plain};
 use families::{Family, FAMILIES, LARGE, LARGE_FAMILIES, N};
 use std::time::{Duration, Instant};
-use sukhlent::{raw, GeneratorList, Record, Refusal};
+use sukhlent::{compare, equivalent, Comparison, GeneratorList, Record, Refusal};
 
 /// The number of pairs of each kind in a family.
-const PAIRS: usize = 100;
+const PAIRS: u64 = 100;
 /// The number of times that a pair is compared; the least time counts.
 const RUNS: usize = 5;
 
-/// The times of one kind of pairs, by this library and by the other.
+/// The times of one kind of pairs.
 #[derive(Default)]
 struct Measured {
-    times: [Vec<Duration>; 2],
+    times: Vec<Duration>,
 }
 
-/// What a comparison answers: its number, the choice and the complementations.
-#[derive(Clone, PartialEq, Debug)]
-struct Answer {
-    number: u8,
-    choice: Vec<u8>,
-    list: Vec<u8>,
-}
+/// A comparison of two lists.
+type Compare = fn(&GeneratorList, &GeneratorList) -> Result<Comparison, Refusal>;
 
 fn main() {
-    if let Some(path) = bench::other_version() {
-        return beside(&path);
-    }
-    println!("compare on {N} qubits, {PAIRS} pairs of each kind, each the least time of {RUNS}:\n");
-    table(&[raw::compare], &FAMILIES);
-    println!("\nequivalent on {LARGE} qubits, as above:\n");
-    table(&[raw::equivalent], &LARGE_FAMILIES);
-    println!("\nA pair that is not equivalent, and brute force over all 6^n classes:");
-    let sizes = [6, 8, 10].into_iter().take(repeats(3));
-    sizes.for_each(against_brute_force);
+    println!("compare on {N} qubits, {PAIRS} pairs of each kind, each the least time of {RUNS}");
+    table(compare, &FAMILIES);
+    println!();
+    println!("equivalent on {LARGE} qubits, as above");
+    table(equivalent, &LARGE_FAMILIES);
+    println!();
+    println!("a pair that is not equivalent, and brute force over all 6^n classes");
+    println!("{:<4}{:>11}{:>17}", "n", "engine", "brute force");
+    [6, 8, 10].into_iter().for_each(against_brute_force);
 }
 
-/// Prints the times of both calls beside those of another version of the library, on the same pairs in turns.
-fn beside(path: &str) {
-    println!(
-        "compare on {N} qubits, beside version {} in {path}:\n",
-        older::load(path)
-    );
-    table(&[raw::compare, older::compare], &FAMILIES);
-    if older::has_equivalent() {
-        println!("\nequivalent on {LARGE} qubits:\n");
-        table(&[raw::equivalent, older::equivalent], &LARGE_FAMILIES);
-    }
-}
-
-/// Prints the times of a call over families; of two versions both means, and the first over the second.
-fn table(calls: &[Compare], families: &[Family]) {
-    if calls.len() == 1 {
-        println!("| family | equivalent | worst | not equivalent | worst |\n|---|---|---|---|---|");
-    } else {
-        println!(
-            "| family | equivalent | the other | ratio | not equivalent | the other | ratio |"
-        );
-        println!("|---|---|---|---|---|---|---|");
-    }
+/// Prints the times of a call over families.
+fn table(compare: Compare, families: &[Family]) {
+    println!("{:<36}{:^22}{:^22}", "", "equivalent", "not equivalent");
+    let columns = format!("{:>11}{:>11}", "mean", "worst");
+    println!("{:<36}{columns}{columns}", "family");
     for family in families {
         let mut random = Random::new(20);
         let (mut same, mut other) = (Measured::default(), Measured::default());
-        for _ in 0..repeats(PAIRS) {
+        for _ in 0..PAIRS {
             let graph = (family.member)(&mut random);
-            same.pair(calls, &pairs::equivalent(&mut random, &graph), true);
+            same.pair(compare, &pairs::equivalent(&mut random, &graph), true);
             let graph = (family.member)(&mut random);
             let told = inequivalent(&mut random, &graph, family.other);
-            other.pair(calls, &told, false);
+            other.pair(compare, &told, false);
         }
-        let columns = [same.columns(), other.columns()].concat();
-        println!("| {} | {} |", family.name, columns.join(" | "));
+        println!("{:<36}{}{}", family.name, same.columns(), other.columns());
     }
 }
 
 impl Measured {
-    /// Compares a pair, and panics unless the answer is right, and the same of all calls.
-    fn pair(&mut self, calls: &[Compare], (first, second): &Pair, equivalent: bool) {
-        for (call, times) in calls.iter().zip(&mut self.times) {
-            let (time, answer) = timed(*call, first, second);
-            assert_right(first, second, &answer, equivalent);
-            times.push(time);
-        }
+    /// Compares a pair, and panics unless the answer is right.
+    fn pair(&mut self, compare: Compare, (first, second): &Pair, equivalent: bool) {
+        let (time, answer) = timed(compare, first, second);
+        assert_right(first, second, &answer, equivalent);
+        self.times.push(time);
     }
 
-    /// The mean and the worst; of two versions both means, and the first over the second.
-    fn columns(&self) -> Vec<String> {
-        let mean = |times: &[Duration]| times.iter().sum::<Duration>() / times.len() as u32;
-        let [times, others] = &self.times;
-        if others.is_empty() {
-            return [mean(times), *times.iter().max().unwrap()]
-                .map(shown)
-                .into();
-        }
-        let (this, other) = (mean(times), mean(others));
-        let ratio = this.as_secs_f64() / other.as_secs_f64();
-        vec![shown(this), shown(other), format!("{ratio:.2}")]
+    fn columns(&self) -> String {
+        let mean = self.times.iter().sum::<Duration>() / self.times.len() as u32;
+        let worst = self.times.iter().max().unwrap();
+        let [mean, worst] = [mean, *worst].map(micros);
+        format!("{mean:>8.0} µs{worst:>8.0} µs")
     }
 }
 
-fn shown(time: Duration) -> String {
-    micros(time.as_secs_f64() * 1e9)
+fn micros(time: Duration) -> f64 {
+    time.as_secs_f64() * 1e6
 }
 
-/// The least time of some runs of a call, and its answer.
-fn timed(call: Compare, first: &GeneratorList, second: &GeneratorList) -> (Duration, Answer) {
+/// The least time of some runs of the public call, and its answer.
+fn timed(
+    compare: Compare,
+    first: &GeneratorList,
+    second: &GeneratorList,
+) -> (Duration, Result<Comparison, Refusal>) {
     let run = |_| {
-        let (mut choice, mut list, mut count) = (vec![0; first.n()], [0; 96], 0);
         let start = Instant::now();
-        let number = call(
-            lent(first),
-            lent(second),
-            &mut choice,
-            &mut list,
-            &mut count,
-        );
-        let time = start.elapsed();
-        let list = list[..count as usize].to_vec();
-        (
-            time,
-            Answer {
-                number,
-                choice,
-                list,
-            },
-        )
+        let answer = compare(first, second);
+        (start.elapsed(), answer)
     };
     (0..RUNS).map(run).min_by_key(|(time, _)| *time).unwrap()
 }
@@ -157,15 +107,24 @@ fn reduced(list: &GeneratorList) -> Record {
 
 /// The choice carries the first group onto the second, and the complementations the first reduced
 /// graph to the second; a pair that is not equivalent is refused.
-fn assert_right(first: &GeneratorList, second: &GeneratorList, answer: &Answer, equivalent: bool) {
-    if !equivalent {
-        assert_eq!(answer.number, Refusal::Inequivalent as u8);
-        return;
+fn assert_right(
+    first: &GeneratorList,
+    second: &GeneratorList,
+    answer: &Result<Comparison, Refusal>,
+    equivalent: bool,
+) {
+    match answer {
+        Ok(answer) => {
+            assert!(equivalent);
+            assert_eq!(reduced(&sent(first, &answer.choice)), reduced(second));
+            let graph = complemented(&reduced(first).neighbours, &answer.complementations);
+            assert_eq!(graph, reduced(second).neighbours);
+        }
+        Err(refusal) => {
+            assert!(!equivalent);
+            assert_eq!(*refusal, Refusal::Inequivalent);
+        }
     }
-    assert_eq!(answer.number, 0);
-    assert_eq!(reduced(&sent(first, &answer.choice)), reduced(second));
-    let graph = complemented(&reduced(first).neighbours, &answer.list);
-    assert_eq!(graph, reduced(second).neighbours);
 }
 
 /// Rings on n vertices, engine and brute force: an equivalent pair for the answer, and one with a
@@ -181,16 +140,15 @@ fn against_brute_force(n: usize) {
     assert!(differ(&mut random, &ring(n), &chord));
 
     let (first, second) = pairs::equivalent(&mut random, &ring(n));
-    let (_, answer) = timed(raw::compare, &first, &second);
-    assert_eq!(answer.number, 0);
+    let answer = compare(&first, &second).expect("an equivalent pair");
     let classes: Vec<u8> = answer.choice.iter().map(|code| code / 4).collect();
     assert_eq!(brute::least_classes(&first, &second), Some(classes));
 
     let other = state(&mut random, &chord);
-    let (time, answer) = timed(raw::compare, &first, &other);
-    assert_right(&first, &other, &answer, false);
+    let (time, answer) = timed(compare, &first, &other);
+    assert_eq!(answer, Err(Refusal::Inequivalent));
     let start = Instant::now();
     assert_eq!(brute::least_classes(&first, &other), None);
-    let brute = shown(start.elapsed());
-    println!("n = {n}: {}, brute force {brute}", shown(time));
+    let brute = micros(start.elapsed());
+    println!("{n:<4}{:>8.0} µs{brute:>14.0} µs", micros(time));
 }
