@@ -1,13 +1,13 @@
--- Images and inverses as the code works them out, from the digits of a code: its class and its two signs.
+-- Images and inverses as the code works them out, from the digits of a code: its class and its two signs. What follows
+-- for what the calls answer is in CodeSigns.
 use mathlib.Core.Bool.{◌&&◌, Bool, beq, false, not, true}
-use mathlib.Core.Path.{ap, ap₂, refl, subst, sym, ◌∙◌, ◌≡◌}
+use mathlib.Core.Path.{ap, ap₂, refl, sym, ◌∙◌, ◌≡◌}
 use Prim.Native.Nat.{◌*◌, ◌+◌, ◌/◌, ◌<◌, ℕ}
 use lib.Bits.{bit_xor}
-use lib.Dec.{T, eqb, leb, lit<, ltb}
+use lib.Dec.{eqb, leb, lit<, ltb}
 use mir.Val.{bool_byte}
 use borrow.Author.Tests.{eqb-true, ltb-true}
 use Rattle.pauli.proofs.PauliLaws.{letter-bits}
-use Rattle.pauli.proofs.PhaseLaws.{same_phase→≡, sign-minus}
 use Rattle.pauli.specs.Pauli.{letter, minus, same_phase, sign_bit, x_bit, z_bit}
 use Rattle.pauli.specs.declared.Letter.{Letter}
 use Rattle.pauli.specs.declared.Letter.TheVariants.{I, X, Y, Z}
@@ -15,7 +15,7 @@ use Rattle.words.proofs.Finite.{unequal, ⊕-zero}
 use Rattle.words.proofs.SearchLaws.{every-at}
 use Rattle.words.specs.Bits.{is_odd, ◌⊕◌}
 use Rattle.words.specs.Search.{every}
-use Rattle.clifford.proofs.CliffordLaws.{code_of-lt, inverse-is, undone}
+use Rattle.clifford.proofs.CliffordLaws.{inverse-is, undone}
 use Rattle.clifford.specs.Clifford.{
   Clifford,
   clifford_of,
@@ -57,25 +57,19 @@ letter-by-calls k l x z za zb xa xb ea eb ex ez eza ezb exa exb er =
     bit_is u v eu ev = unequal (x && u) (z && v) ∙ ap₂ ◌⊕◌ (ap₂ ◌&&◌ ex eu) (ap₂ ◌&&◌ ez ev)
 
 -- ---- the sign of an image, by one test over the 24 codes for each letter
-abbrev image_minus : ℕ → Bool → Bool → Bool
+abbrev pub image_minus : ℕ → Bool → Bool → Bool
 image_minus c x z =
     not (beq (not (beq (x && is_odd (c / 2)) (z && is_odd c))) ((x && z) && (leb 4 c && ltb c 16)))
 
-abbrev minus_holds : Letter → ℕ → Bool
+abbrev pub minus_holds : Letter → ℕ → Bool
 minus_holds l c = same_phase (minus (image_minus c (x_bit l) (z_bit l))) (image_phase (clifford_of c) l)
 
-minus-holds : (l : Letter) → every 24 (minus_holds l) ≡ true
+pub minus-holds : (l : Letter) → every 24 (minus_holds l) ≡ true
 unfolding every
 minus-holds I = refl
 minus-holds X = refl
 minus-holds Y = refl
 minus-holds Z = refl
-
-pub image-minus : (c : ℕ) → c < 24 → (l : Letter) (x z : Bool) → x ≡ x_bit l → z ≡ z_bit l →
-    minus (image_minus c x z) ≡ image_phase (clifford_of c) l
-image-minus c h l x z ex ez =
-    ap₂ (λ x z. minus (image_minus c x z)) ex ez
-    ∙ same_phase→≡ _ _ (subst T (sym (every-at 24 (minus_holds l) (minus-holds l) c h)) tt)
 
 -- ---- the inverse
 -- its class, as the code of that class without signs
@@ -87,38 +81,26 @@ unfolding every
 back-lt c l = ltb-true (back c) 24 (every-at 24 (λ c. ltb (back c) 24) refl c l)
 
 -- .. with signs
-abbrev back_with : ℕ → Bool → Bool → ℕ
+abbrev pub back_with : ℕ → Bool → Bool → ℕ
 back_with c s t = back c + 2 * bool_byte s + bool_byte t
 
-abbrev sign_of : ℕ → Letter → Bool
+abbrev pub sign_of : ℕ → Letter → Bool
 sign_of c l = sign_bit (image_phase (clifford_of c) l)
 
 -- the letter to which X or Z goes back, from which it came
-abbrev came_from : ℕ → Letter → Letter
+abbrev pub came_from : ℕ → Letter → Letter
 came_from c l = image (clifford_of (back c)) l
 
 -- with the signs of these it is the inverse, by one test over the 24 codes
-abbrev inverse_code : ℕ → ℕ
+abbrev pub inverse_code : ℕ → ℕ
 inverse_code c = back_with c (sign_of c (came_from c X)) (sign_of c (came_from c Z))
 
-inverse-code : (c : ℕ) → c < 24 → inverse_code c ≡ code_of (inverse (clifford_of c))
+pub inverse-code : (c : ℕ) → c < 24 → inverse_code c ≡ code_of (inverse (clifford_of c))
 unfolding every
 inverse-code c l =
     eqb-true (inverse_code c) (code_of (undone (clifford_of c)))
     (every-at 24 (λ c. eqb (inverse_code c) (code_of (undone (clifford_of c)))) refl c l)
     ∙ ap code_of (sym (inverse-is (clifford_of c)))
-
--- .. from what the code's calls answer
-pub inverse-by-calls : (c : ℕ) → c < 24 → (s t : Bool) {l m : Letter} →
-    l ≡ came_from c X → minus s ≡ image_phase (clifford_of c) l →
-    m ≡ came_from c Z → minus t ≡ image_phase (clifford_of c) m →
-    (back_with c s t ≡ code_of (inverse (clifford_of c))) × (back_with c s t < 24)
-inverse-by-calls c h s t el es em et =
-    let e = ap₂ (back_with c) (sign-is s el es) (sign-is t em et) ∙ inverse-code c h in
-    (e, subst (λ v. v < 24) (sym e) (code_of-lt (inverse (clifford_of c))))
-  where
-    sign-is : (s : Bool) {l l' : Letter} → l ≡ l' → minus s ≡ image_phase (clifford_of c) l → s ≡ sign_of c l'
-    sign-is s e es = sym (sign-minus s) ∙ ap sign_bit (es ∙ ap (image_phase (clifford_of c)) e)
 
 pub byte-lt : (b : Bool) → bool_byte b < 2
 byte-lt false = lit< tt

@@ -1,7 +1,7 @@
 -- The constant table of the source, and its rule, by one computed test over the whole table.
 use mathlib.Core.Bool.{◌&&◌, Bool, true}
 use mathlib.Core.List.{List, [], ◌∷◌}
-use mathlib.Core.Path.{ap, ap₂, subst, ◌∙◌, ◌≡◌}
+use mathlib.Core.Path.{ap₂, subst, ◌∙◌, ◌≡◌}
 use Prim.Native.Nat.{◌%◌, ◌*◌, ◌+◌, ◌/◌, ◌<◌, suc, zero, ℕ}
 use native.Mathlib.Nat.{add-suc, add-zero, le_of_suc-le-suc, not-suc-le-zero, suc-add, zero-add}
 use native.Mathlib.Omega.{arith}
@@ -90,10 +90,3 @@ then-entry a b ha hb =
     entry (λ k. code_of (then (clifford_of (k / 24)) (clifford_of (k % 24)))) then_table tt (24 * a
     + b) (omega arith)
     ∙ ap₂ (λ u v. code_of (then (clifford_of u) (clifford_of v))) quotient rest
-
--- the 24 entries from place 24 a on are 'first a', then each code
-pub then-row : (row : List ℕ) (start a : ℕ) → a < 24 → start ≡ 24 * a
-    → ((b : ℕ) → b < 24 → get_or row b 0 ≡ get_or then_table (start + b) 0)
-    → (b : ℕ) → b < 24 → get_or row b 0 ≡ code_of (then (clifford_of a) (clifford_of b))
-then-row row start a ha e h b hb =
-    h b hb ∙ ap (λ s. get_or then_table (s + b) 0) e ∙ then-entry a b ha hb

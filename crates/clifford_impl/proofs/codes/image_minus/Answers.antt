@@ -1,5 +1,5 @@
 -- `image_minus` meets its contract: whether the image of a letter is negative.
-use Rattle.clifford_impl.proofs.CodeDigits.{image-minus}
+use Rattle.clifford_impl.proofs.CodeSigns.{image-minus}
 use Rattle.clifford_impl.proofs.codes.image_minus.Goals as goal
 
 pub returns : goal.returns

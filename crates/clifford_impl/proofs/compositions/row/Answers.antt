@@ -2,7 +2,8 @@
 use mathlib.Core.Path.{refl, ◌≡◌}
 use Prim.Native.Nat.{◌*◌}
 use native.Mathlib.Omega.{arith}
-use Rattle.clifford_impl.proofs.TableRules.{then-row, then_table}
+use Rattle.clifford_impl.proofs.TableRows.{then-row}
+use Rattle.clifford_impl.proofs.TableRules.{then_table}
 use Rattle.clifford_impl.proofs.compositions.row.Goals as goal
 
 pub returns-in-2 : goal.returns-in-2

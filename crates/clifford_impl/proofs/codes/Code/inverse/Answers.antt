@@ -1,6 +1,7 @@
 -- `inverse` meets its contract: the code that undoes this one.
 use native.Mathlib.Omega.{arith}
-use Rattle.clifford_impl.proofs.CodeDigits.{back-lt, byte-lt, inverse-by-calls}
+use Rattle.clifford_impl.proofs.CodeDigits.{back-lt, byte-lt}
+use Rattle.clifford_impl.proofs.CodeSigns.{inverse-by-calls}
 use Rattle.clifford_impl.proofs.codes.Code.inverse.Goals as goal
 
 pub overflow_mul-back : goal.overflow_mul-back
