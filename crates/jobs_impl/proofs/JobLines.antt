@@ -38,11 +38,7 @@ pub record Writing (n count seed : ℕ) (out₀ : List ℕ) (at₀ : ℕ) (out :
 lines_more : (n left s : ℕ) → 0 < left
     → steps_text (drawn n left s) ≡ step_text (step_of n (draw s)) ++ steps_text (drawn n (left - 1) (draw s))
 unfolding drawn steps_text
-<<<<<<< HEAD
-lines_more n zero s some = absurd (lt_irrefl 0 some)
-=======
 lines_more n zero s some = absurd (not-suc-le-zero some)
->>>>>>> 3ca5de76 (jobs_impl: more_step and the lines of a job)
 lines_more n (suc k) s some =
     let one_less : k ≡ suc k - 1 = omega arith in
     ap (λ j. step_text (step_of n (draw s)) ++ steps_text (drawn n j (draw s))) one_less
