@@ -2,11 +2,11 @@
 use mathlib.Core.Bool.{Bool}
 use mathlib.Core.List.{◌++◌, List, [], ◌∷◌}
 use mathlib.Core.Path.{◌∙◌, ◌≡◌, ap, refl, subst, sym}
-use Prim.Native.Nat.{◌+◌, ◌<◌, ◌^◌, ◌≤◌, suc, ℕ}
+use Prim.Native.Nat.{◌+◌, ◌<◌, ◌≤◌, suc, ℕ}
 use native.Mathlib.Omega.{arith}
 use lib.Dec.{leb}
 use lib.ListN.{get_or, length, length-append, set, take}
-use lib.Seq.{length-take-le, take_all, take-suc}
+use lib.Seq.{length-take-le, take-suc}
 use Rattle.call_run.specs.internal.Waiting.{held_in, meant, meant_record}
 use Rattle.jobs.proofs.Stepwise.{run-qubits}
 use Rattle.jobs.specs.Asked.{number_of}

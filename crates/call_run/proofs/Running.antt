@@ -1,6 +1,6 @@
 -- The run of a step, from what the calls answer.
 use mathlib.Core.Bool.{Bool, cond, false, true, ◌||◌}
-use mathlib.Core.List.{List, [], ◌∷◌}
+use mathlib.Core.List.{List}
 use mathlib.Core.Path.{◌∙◌, ◌≡◌, ap, ap₂, refl, subst, sym}
 use Prim.Native.Nat.{◌%◌, ◌+◌, ◌/◌, ◌<◌, ℕ}
 use native.Mathlib.Decide.{ℕ_discrete}

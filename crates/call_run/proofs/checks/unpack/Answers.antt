@@ -1,6 +1,5 @@
 -- `unpack` meets its contract: the answers that were kept as one number each, told apart.
 use mathlib.Core.Path.{◌∙◌, sym}
-use Prim.Native.Nat.{◌-◌}
 use native.Mathlib.Omega.{arith}
 use Rattle.call_run.proofs.Telling.{told-all, told-next, told_none}
 use Rattle.call_run.proofs.checks.unpack.Goals as goal

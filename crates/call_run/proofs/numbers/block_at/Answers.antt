@@ -1,6 +1,6 @@
 -- `block_at` meets its contract: the steps from a place on, at most 64.
 use mathlib.Core.Path.{refl}
-use Prim.Native.Nat.{◌-◌, ◌<◌, zero-le}
+use Prim.Native.Nat.{◌<◌, zero-le}
 use native.Mathlib.Omega.{arith}
 use borrow.Author.Rules.{rules}
 use Rattle.buffers.proofs.Filling.{none_filled, one-filled}

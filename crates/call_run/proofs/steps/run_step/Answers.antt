@@ -1,7 +1,4 @@
 -- `run_step` meets its contract: one step on a record that no line refuses.
-use mathlib.Core.Bool.{false}
-use mathlib.Core.Path.{◌≡◌}
-use Rattle.call_run.specs.internal.Waiting.{meant}
 use Rattle.operations.specs.Used.{used_record}
 use Rattle.call_run.proofs.Running.{lot-small, photon-small, rewriting, value-small, wrong-by}
 use Rattle.call_run.proofs.WaitedSteps.{measured-waited, observed-waited, plain-waited, renewed-waited, wrong-waited}
