@@ -28,5 +28,5 @@ returns-in-2 c = ap turned (sym c.in-2.is)
 pub returns-in_default : goal.returns-in_default
 unfolding of_bits neg
 returns-in_default c =
-    ap turned (sym (three c.args.k c.requires c.in_default-own.rest.0.0.1
-    c.in_default-own.rest.0.1 c.in_default-own.rest.1))
+    let default = c.in_default.in_default-own.rest in
+    ap turned (sym (three c.args.k c.requires default.0.0.1 default.0.1 default.1))

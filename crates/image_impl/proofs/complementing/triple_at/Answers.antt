@@ -27,6 +27,11 @@ pub bounds-list-count-2 : goal.bounds-list-count-2
 bounds-list-count-2 c =
     omega (arith, c.requires.j_in_bounds.2, c.requires.j_in_bounds.3.places, length-set c.args.list.now c.args.at.count c.args.j)
 
+pub overflow_cast-list-3 : goal.overflow_cast-list-3
+overflow_cast-list-3 c =
+    let small : length c.args.neighbours.now ≤ 64 = tracked-small _ _ c.requires.j_in_bounds.3 in
+    omega (arith, c.requires.j_in_bounds.0)
+
 pub bounds-list-count-3 : goal.bounds-list-count-3
 bounds-list-count-3 c =
     let a = c.args in
