@@ -12,10 +12,10 @@ use Rattle.jobs_replies.proofs.answers.job_reply.Goals as goal
 
 -- where the lemmas below stand
 abbrev AfterJudgeNumber : Type 0
-AfterJudgeNumber = lts.After-judge tie.the-claims reads.Pre reads.Post tie.handed_clauses
+AfterJudgeNumber = lts.After-judge tie.the-claims reads.Pre reads.Post
 
 abbrev Start : Type 0
-Start = lts.Start tie.the-claims reads.Pre reads.Post tie.handed_clauses
+Start = lts.Start tie.the-claims reads.Pre reads.Post
 
 -- before the text was judged, and the reading there
 abbrev begun : AfterJudgeNumber → Start

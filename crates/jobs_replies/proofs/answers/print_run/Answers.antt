@@ -11,10 +11,10 @@ use Rattle.jobs_replies.proofs.answers.print_run.Goals as goal
 
 -- where the lemmas below stand
 abbrev AfterRunUsed : Type 0
-AfterRunUsed = lts.After-run tie.the-claims reads.Pre reads.Post tie.handed_clauses
+AfterRunUsed = lts.After-run tie.the-claims reads.Pre reads.Post
 
 abbrev Start : Type 0
-Start = lts.Start tie.the-claims reads.Pre reads.Post tie.handed_clauses
+Start = lts.Start tie.the-claims reads.Pre reads.Post
 
 -- before the steps ran
 abbrev begun : AfterRunUsed → Start

@@ -12,10 +12,10 @@ use Rattle.jobs_replies.proofs.answers.run.Goals as goal
 
 -- where the lemmas below stand
 abbrev AfterRunStepsUsed : Type 0
-AfterRunStepsUsed = lts.After-run_steps tie.the-claims reads.Pre reads.Post tie.handed_clauses
+AfterRunStepsUsed = lts.After-run_steps tie.the-claims reads.Pre reads.Post
 
 abbrev Start : Type 0
-Start = lts.Start tie.the-claims reads.Pre reads.Post tie.handed_clauses
+Start = lts.Start tie.the-claims reads.Pre reads.Post
 
 -- the record that is lent
 abbrev lent : Start → UsedRecord
@@ -24,10 +24,7 @@ lent S = used_record S.args.n S.args.neighbours.now S.args.codes.now 0
 all : (S : Start) → length (take S.args.count S.args.steps) ≡ S.args.count
 all S = length-take-le S.args.count S.args.steps (omega (arith, S.requires.0, S.well_formed.1.1.1.0.1))
 
--- after the last step, and before the first
-abbrev ran : tie.After-settle-last-arg3 → AfterRunStepsUsed
-ran c = c.before.before.before.before.before.before.before.before.before
-
+-- before the first step
 abbrev begun : AfterRunStepsUsed → Start
 begun R = R.before.before.before.before.before.before.before
 
@@ -38,14 +35,14 @@ run_steps-used-requires c =
 
 pub settle_last-requires : goal.settle_last-requires
 settle_last-requires c =
-    let R = ran c in
+    let R = c.before.before.before.before.before.before.before.before in
     let S = begun R in (
-      omega (arith, S.requires.1, R.run_steps-used.kept.1.1.1.1.1.1.1.0),
+      omega (arith, S.requires.1, R.run_steps-used.auto.answers),
       last-ready (lent S) _ _ (all S) _ _ _ _ _ R.run_steps-used.ensures (first-ready _ (lent S) S.requires.2),
     )
 
 pub returns : goal.returns
 returns c =
-    let R = ran c.before.before.before.before.before.before in
+    let R = c.before.before.before.before.before.before.before.before.before.before.before.before.before.before in
     let S = begun R in
     last-settled (lent S) _ _ (all S) _ _ _ _ _ R.run_steps-used.ensures _ _ c.settle_last.ensures
