@@ -82,6 +82,6 @@ class Made:
 @functools.lru_cache(maxsize=None)
 def release():
     """The release; its folder is taken away at the end."""
-    room = Path(tempfile.mkdtemp(dir=ROOT / "target"))
+    room = Path(tempfile.mkdtemp())
     atexit.register(shutil.rmtree, room, ignore_errors=True)
     return Made(room)

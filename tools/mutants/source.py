@@ -98,8 +98,19 @@ def typed(text):
     return text[colon - 1], " ".join(text[colon + 1:])
 
 
+def after_types(tokens, i):
+    """The place after the type parameters that begin at place i, or i where none do."""
+    depth = 0
+    while tokens[i].text == "<" or depth:
+        depth += {"<": 1, ">": -1, ">>": -2}.get(tokens[i].text, 0)
+        i += 1
+        if not depth:
+            break
+    return i
+
+
 def read_function(tokens, i, owner):
-    opened = i + 2
+    opened = after_types(tokens, i + 2)
     given = parts(tokens, opened)
     parameters = dict(typed(words(tokens, part)) for part in given)
     places = dict(zip(parameters, (part[0] for part in given)))
@@ -110,8 +121,8 @@ def read_function(tokens, i, owner):
         k += 1
     clauses = []
     while tokens[k].text in ("requires", "ensures"):  # with a name or without
-        opened = k + 1 if tokens[k + 1].text == "{" else k + 2
-        end = closing(tokens, opened) + 1
+        start = k + 1 if tokens[k + 1].text == "{" else k + 2
+        end = closing(tokens, start) + 1
         clauses.append((tokens[k].text, k, end))
         k = end
     name = tokens[i + 1].text

@@ -8,7 +8,7 @@ import re
 from dataclasses import dataclass, field
 from pathlib import Path
 
-from mutants.source import closing, functions_of, parts, tokens_of, typed, words
+from mutants.source import after_types, closing, functions_of, parts, tokens_of, typed, words
 
 USE = re.compile(r"^[ \t]*(?:pub )?use ([^;]+);", re.M)
 GHOST = re.compile(r"^[ \t]*ghost use [^;]+;", re.M)
@@ -211,7 +211,7 @@ def lines_of(item):
 
 def parameters(item):
     """The parameters of a function with their types, `self` with how it is passed."""
-    opened = next(k for k in range(item.function.body[0], -1, -1) if item.tokens[k].text == "fn") + 2
+    opened = after_types(item.tokens, next(k for k in range(item.function.body[0], -1, -1) if item.tokens[k].text == "fn") + 2)
     found = {}
     for part in parts(item.tokens, opened):
         text = words(item.tokens, part)

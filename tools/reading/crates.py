@@ -6,8 +6,6 @@ import re
 
 from .rattle import functions, plain
 
-KIT = ("check", "libc", "io", "os", "bytes")
-
 
 def listed(root):
     """The sections of crates.txt: (heading, [(crate, dependencies)])."""
@@ -32,11 +30,20 @@ def text_of(root, crate, *folders):
     return "\n".join(found)
 
 
+def paths_of(root, *kinds):
+    """Every file of src/, specs/ and proofs/ of every crate with one of these endings, in order."""
+    found = []
+    for folder in ("src", "specs", "proofs"):
+        found += glob.glob(os.path.join(root, "crates", "*", folder, "**", "*"), recursive=True)
+    return sorted(path for path in found if path.endswith(kinds))
+
+
 class Crates:
     """What the files of every crate name, and which structs and enums their functions pass."""
 
     def __init__(self, root, names):
         self.names = set(names)
+        self.kit = {need for _, items in listed(root) for _, needs in items for need in needs} - self.names
         self.source = {name: plain(text_of(root, name, "src")) for name in names}
         self.whole = {name: text_of(root, name, "src", "specs", "proofs") for name in names}
         self.types = {name: set(re.findall(r"(?:struct|enum) (\w+)", text)) for name, text in self.source.items()}
@@ -90,5 +97,5 @@ class Crates:
         """The crates that this one names, or whose structs and enums it passes."""
         named = set(re.findall(r"\bRattle\.(\w+)", self.whole[crate]))
         named |= set(re.findall(r"(?<![\w:])(\w+)::", self.source[crate]))
-        found = (named & self.names) | self.passed(crate) | (named & set(KIT))
+        found = (named & self.names) | self.passed(crate) | (named & self.kit)
         return found - {crate}

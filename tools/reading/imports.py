@@ -1,8 +1,9 @@
 """Imported names that no other line of their file has: each makes a dependency that is none."""
 
-import glob
 import os
 import re
+
+from .crates import paths_of
 
 USE = re.compile(r"^(?:ghost )?use ([^\s{;]+?)(?:(?:\.|::)\{([^}]*)\})?(?: as ([^\s;]+))?;?$", re.M)
 COMMENT = re.compile(r"//.*|^\s*--.*|\s--\s.*", re.M)
@@ -24,21 +25,22 @@ def has(words, name):
     return name in words or "◌" in name and all(part in words for part in name.split("◌") if part)
 
 
-def unused_in(text):
-    """The imported names of a file that its other lines do not have."""
+def unused_in(text, is_code):
+    """The imported names of a file that its other lines do not have; in code a name ends at any mark, as in `R: Read>`."""
     text = COMMENT.sub("", text)
     body = USE.sub("", text)
     words = {*BETWEEN.split(body), *re.findall(r"[A-Za-z]\w*(?=\[)|(?<=[\[&*!])[A-Za-z]\w*", body)}
+    if is_code:
+        words.update(re.findall(r"[A-Za-z_]\w*", body))
     return [name for use in USE.finditer(text) for name in names_of(use) if not has(words, name)]
 
 
 def unused(root):
     """Every file with such names, and the names."""
     found = {}
-    for path in sorted(glob.glob(os.path.join(root, "crates", "*", "*", "**", "*.*"), recursive=True)):
-        if path.endswith((".rt", ".antt")):
-            with open(path, encoding="utf-8") as file:
-                names = unused_in(file.read())
-            if names:
-                found[os.path.relpath(path, root)] = names
+    for path in paths_of(root, ".rt", ".antt"):
+        with open(path, encoding="utf-8") as file:
+            names = unused_in(file.read(), path.endswith(".rt"))
+        if names:
+            found[os.path.relpath(path, root)] = names
     return found

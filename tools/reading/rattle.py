@@ -2,6 +2,8 @@
 
 import re
 
+from mutants.source import functions_of, tokens_of
+
 from .antt import use_of
 
 
@@ -22,14 +24,13 @@ def ghost_names(text):
 
 def functions(text):
     """The functions of a file: the name, the contract's text and the body's."""
+    tokens = tokens_of(text)
+    heads = [tokens[i].start for i in range(len(tokens)) if tokens[i].text == "fn"]
     found = []
-    for head in re.finditer(r"^[ \t]*(?:pub )?(?:extern \"C\" )?fn (\w+)", text, re.M):
-        body = re.compile(r"^[ \t]*\{[ \t]*$|^(?!.*\brecord \{[ \t]*$).*\)[^\n;]*\{[ \t]*$", re.M)
-        start = body.search(text, head.start())
-        if not start:
-            continue
-        end = re.compile(r"^\}[ \t]*$|^    \}[ \t]*$", re.M).search(text, start.end())
-        found.append((head.group(1), text[head.start():start.start()], text[start.end():end.start() if end else None]))
+    for function in functions_of(tokens):
+        first, last = function.body
+        start = max(head for head in heads if head < tokens[first - 1].start)
+        found.append((function.name, text[start:tokens[first - 1].start], text[tokens[first - 1].end:tokens[last].start]))
     return found
 
 

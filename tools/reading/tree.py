@@ -6,6 +6,7 @@ import re
 from dataclasses import dataclass, field
 
 from . import antt, rattle
+from .crates import paths_of
 
 MODULE = re.compile(r"Rattle\.(\w+)\.(specs|proofs)(?:\.(.*))?$")
 
@@ -30,7 +31,7 @@ class Tree:
         self.sources = {}
         self.types = {}
         self.scopes = {}
-        for path in sorted(glob.glob(os.path.join(root, "crates", "*", "*", "**", "*.antt"), recursive=True)):
+        for path in paths_of(root, ".antt"):
             self.sources[path] = antt.parse(path)
         self.known = {}
         for path, source in self.sources.items():
