@@ -1,4 +1,5 @@
 // Amplitudes for plotting: the answer, and a line of the plot. See specs/ for the definitions and proofs/ for the laws.
+#![tactic(auto)]
 
 // "the answer is nothing, .. or a value on the real axis, or a value on the imaginary axis"
 #[derive(Clone, Copy)]

@@ -1,4 +1,6 @@
 // Amplitudes on words: the support and its turns, the smallest word, the lines of a plot.
+#![tactic(auto)]
+
 pub mod answer;
 mod lines;
 pub mod lowest;

@@ -1,5 +1,7 @@
 // Reads a generator list from standard input, by `read_list` of text_replies, and prints the table of its amplitudes, which
 // `plot_reply` of jobs_replies makes of what was scanned.
+#![tactic(auto)]
+
 ghost use Rattle.std.specs.Prelude.{◌≤◌, length, ◌≡◌, IfOk, OnErr};
 ghost use Rattle.calls.specs.PlotAnswers.{longest_table};
 ghost use Rattle.amplitudes.specs.Reads.{AmplitudesResponded};

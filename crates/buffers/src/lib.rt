@@ -1,5 +1,7 @@
 // The tests of lent buffers that several lines of the refusals share, copies into them, and signs as they are lent.
 // The one shape of every public call's contract: see specs/ for the definitions and proofs/ for the laws.
+#![tactic(auto)]
+
 pub mod arrays;
 pub mod copies;
 mod copying;

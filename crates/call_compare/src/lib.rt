@@ -1,4 +1,6 @@
 // The public calls on two generator lists.
+#![tactic(auto)]
+
 pub mod records;
 
 ghost use Rattle.std.specs.Prelude.{◌||◌, not, ◌≡◌, ◌≤◌, eqb, length};

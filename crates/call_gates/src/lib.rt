@@ -1,4 +1,6 @@
 // The public calls that rewrite a lent record in place: their refusal, and gate and cz.
+#![tactic(auto)]
+
 pub mod complement;
 pub mod measure;
 

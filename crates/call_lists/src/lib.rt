@@ -1,4 +1,6 @@
 // The public calls on generator lists: check, reduce.
+#![tactic(auto)]
+
 pub mod product;
 pub mod strings;
 

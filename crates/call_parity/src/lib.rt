@@ -1,4 +1,6 @@
 // The public call that measures a Pauli row of any weight.
+#![tactic(auto)]
+
 ghost use Rattle.buffers.specs.Calls.{Call};
 ghost use Rattle.calls.specs.Parities.{measure_row_call};
 ghost use Rattle.operations.specs.Used.{used_record};

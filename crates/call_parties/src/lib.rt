@@ -1,5 +1,7 @@
 // The public calls of a party on a shared record: gate, cz, measurement, complementation. Each works on a copy in which
 // the other party's vertices stand alone in +Z, and puts the party's own vertices back.
+#![tactic(auto)]
+
 pub mod source_calls;
 pub mod stores;
 

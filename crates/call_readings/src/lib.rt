@@ -1,5 +1,7 @@
 // The public calls that read their arguments and answer in lent buffers: image, cut, amplitude, expectation, expand,
 // orbit, generate.
+#![tactic(auto)]
+
 pub mod amplitudes;
 pub mod cuts;
 pub mod expansions;

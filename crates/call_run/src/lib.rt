@@ -1,4 +1,6 @@
 // The public call that runs many steps on a lent record in place.
+#![tactic(auto)]
+
 mod checks;
 pub mod lent;
 mod numbers;

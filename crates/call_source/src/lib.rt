@@ -1,4 +1,6 @@
 // The public calls of a source that goes on: a measurement with a bit by lot, and a new photon at a used place.
+#![tactic(auto)]
+
 ghost use Rattle.std.specs.Prelude.{not, ◌≡◌};
 ghost use Rattle.buffers.specs.Calls.{Call};
 ghost use Rattle.calls.specs.Sources.{observe_call, renew_call};

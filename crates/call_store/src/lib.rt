@@ -1,4 +1,6 @@
 // The public calls on a store of eight named states.
+#![tactic(auto)]
+
 ghost use Rattle.std.specs.Prelude.{◌≡◌, false, ◌||◌};
 ghost use Rattle.buffers.specs.Refusals.{first_fitting};
 ghost use Rattle.buffers.specs.Calls.{Call};

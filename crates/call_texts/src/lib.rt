@@ -1,4 +1,6 @@
 // The public calls that write a record as a text and read it.
+#![tactic(auto)]
+
 ghost use Rattle.std.specs.Prelude.{false, ◌≡◌, length, take};
 ghost use Rattle.buffers.specs.Calls.{Call};
 ghost use Rattle.buffers.specs.Refusals.{first_fitting};

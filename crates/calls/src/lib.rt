@@ -1,1 +1,2 @@
 // What the public calls and the programs promise: no function stands here.
+#![tactic(auto)]

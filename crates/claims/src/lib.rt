@@ -3,3 +3,4 @@
 // What is claimed of the comparison of two records: see specs/ for the statements and proofs/ for the proofs.
 // What is claimed of the comparison of parts of any size: see specs/ for the statements and proofs/ for the proofs.
 // What is claimed of the calls of a source that goes on: see specs/Sources.antt.
+#![tactic(auto)]

@@ -1,4 +1,6 @@
 // The least choice of local Cliffords, part after part of the graphs.
+#![tactic(auto)]
+
 pub mod answer;
 mod component;
 mod part_records;

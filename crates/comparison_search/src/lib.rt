@@ -1,5 +1,7 @@
 // The least choice: for each qubit in turn the first class that the equations allow, then for each the first signs; and
 // the comparison of two records by it. Neither loop steps back: at most 6 classes and 4 signs are tried at a qubit.
+#![tactic(auto)]
+
 mod assignments;
 mod choices;
 mod elements;

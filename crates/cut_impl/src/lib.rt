@@ -1,4 +1,6 @@
 // The rank of the edges across a cut, by elimination over the vertices of the unmarked side.
+#![tactic(auto)]
+
 ghost use Rattle.std.specs.Prelude.{◌≡◌, ℕ, ◌<◌, ◌≤◌, ◌^◌, length};
 ghost use Rattle.cut.specs.Cut.{crossing, cut_rank};
 ghost use Rattle.record.specs.Graph.{Simple};

@@ -1,5 +1,7 @@
 // The value of a Pauli row on a record in its buffers: the row is sent back through the codes, and the element of the
 // graph's group with its x bits stands beside it.
+#![tactic(auto)]
+
 ghost use Rattle.std.specs.Prelude.{false, ◌≡◌, ℕ, ◌<◌, ◌≤◌, ◌^◌, get_or, length};
 ghost use Rattle.clifford.specs.Clifford.{inverse};
 ghost use Rattle.clifford.specs.Vectors.{act, codes_of};

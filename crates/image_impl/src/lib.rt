@@ -1,4 +1,6 @@
 // The image rule on words, the image graph, its signs and the list of moves.
+#![tactic(auto)]
+
 pub mod answer;
 mod complementing;
 mod image_loop;

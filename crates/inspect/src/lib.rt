@@ -1,4 +1,6 @@
 // The codes' tables and the arithmetic of rows, exported for tests. Not part of the engine's public calls.
+#![tactic(auto)]
+
 ghost use Rattle.std.specs.Prelude.{◌≡◌, ◌<◌};
 ghost use Rattle.words.specs.Bits.{digit};
 ghost use Rattle.inspect.specs.internal.Answers.{bits_answer, image_answer, inverse_answer, number, then_answer};

@@ -1,5 +1,7 @@
 // Reads a job from standard input, to its end and in blocks, and prints the answer to it, which `job_reply` of
 // jobs_replies makes of what was read.
+#![tactic(auto)]
+
 ghost use Rattle.std.specs.Prelude.{◌≤◌, length, ◌≡◌, IfOk, OnErr};
 ghost use Rattle.jobs_replies.specs.Room.{longest_job};
 ghost use Rattle.jobs.specs.internal.Scan.{as_reading};

@@ -1,5 +1,7 @@
 // Jobs: sessions written as steps, each with its operation, its qubits and a value: see specs/ and proofs/.
 // The table of a plot as text. See specs/ for the definitions and proofs/ for the laws.
+#![tactic(auto)]
+
 pub mod drawing;
 pub mod letters;
 pub mod scan;

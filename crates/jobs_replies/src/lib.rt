@@ -1,4 +1,6 @@
 // What the programs amplitudes and job answer: the table or the steps printed.
+#![tactic(auto)]
+
 pub mod answers;
 pub mod plots;
 mod tables;

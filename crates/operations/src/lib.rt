@@ -2,6 +2,8 @@
 // Gates, CZ and measurements as steps on a graph and its codes: see specs/ for the steps, and proofs/ for what they do
 // to the group. The code stands in operations_gates, operations_gates and operations_measurement.
 // Records with a word of used qubits: see specs/ for the lines and what a call leaves, and proofs/ for the laws.
+#![tactic(auto)]
+
 ghost use Rattle.std.specs.Prelude.{◌≡◌};
 ghost use Rattle.operations.specs.Measurement.{determined_number, outcome_number};
 

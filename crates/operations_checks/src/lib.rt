@@ -1,4 +1,6 @@
 // The lines of the refusals that speak of a record with used qubits.
+#![tactic(auto)]
+
 ghost use Rattle.std.specs.Prelude.{not, ◌||◌, ◌≡◌, ◌<◌, ◌≤◌, ◌^◌, eqb, leb, length};
 ghost use Rattle.buffers.specs.Refusals.{first_fitting};
 ghost use Rattle.operations.specs.internal.InPlace.{record_in};

@@ -1,4 +1,6 @@
 // Gates and CZ on a record in its buffers.
+#![tactic(auto)]
+
 mod joins;
 pub mod settling;
 pub mod suspecting;

@@ -1,4 +1,6 @@
 // Measurements on a record in its buffers.
+#![tactic(auto)]
+
 mod isolation;
 mod parting;
 mod undetermined;

@@ -1,5 +1,7 @@
 // The measurement of a Pauli row on a record in its buffers: where the row is not determined the record is expanded into
 // its generators, these are changed, and the list is reduced.
+#![tactic(auto)]
+
 mod generators;
 
 ghost use Rattle.std.specs.Prelude.{◌<◌, ◌^◌, length};

@@ -1,4 +1,6 @@
 // Rows of the code: a product is xor on the words and a count of ones for the power of i; so is commutation.
+#![tactic(auto)]
+
 ghost use Rattle.std.specs.Prelude.{false, ◌≡◌, ◌<◌};
 ghost use Rattle.pauli.specs.Pauli.{◌+ᵖ◌, anticommute, exponent, i⁰, letter, minus, mul};
 ghost use Rattle.pauli.specs.Pauli.{power, row, x_bit, z_bit};

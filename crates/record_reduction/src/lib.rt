@@ -1,4 +1,6 @@
 // Reduction by value on an array of 64 rows of two words, z and x, beside one word of signs.
+#![tactic(auto)]
+
 mod passes;
 mod records;
 mod shears;

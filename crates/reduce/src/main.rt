@@ -1,5 +1,7 @@
 // Reads a generator list from standard input, by `read_list` of text_replies, and prints the answer to it, which `list_reply`
 // of text_replies makes of what was scanned.
+#![tactic(auto)]
+
 ghost use Rattle.std.specs.Prelude.{◌≤◌, length, ◌≡◌, IfOk, OnErr};
 ghost use Rattle.text_replies.specs.Places.{longest_record};
 ghost use Rattle.reduce.specs.Reads.{ReduceResponded};

@@ -2,3 +2,4 @@
 // proofs/ for the laws.
 // A group's observation and renewal on a shared record: see specs/ for the lines and what each leaves, and proofs/ for the
 // laws.
+#![tactic(auto)]

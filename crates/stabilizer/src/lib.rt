@@ -1,1 +1,2 @@
 // Generator lists and their groups, row operations, and the lines of a list: see specs/ and proofs/.
+#![tactic(auto)]

@@ -1,4 +1,6 @@
 // The public calls as C sees them, by family. Each passes its arguments on to the proved call that has the same contract.
+#![tactic(auto)]
+
 pub mod amplitudes;
 pub mod comparisons;
 pub mod equivalences;

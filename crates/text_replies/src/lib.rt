@@ -1,4 +1,6 @@
 // Answers the text of a generator list that was scanned: prints the list's reduced record, or a refusal.
+#![tactic(auto)]
+
 pub mod input;
 
 ghost use Rattle.std.specs.Prelude.{List, ◌≡◌, ℕ, ◌≤◌, min, length};

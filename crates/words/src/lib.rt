@@ -1,4 +1,6 @@
 // Words of 64 bits: masks, bits read, flipped and counted, the smallest and the largest set bit.
+#![tactic(auto)]
+
 pub mod transposition;
 
 ghost use Rattle.std.specs.Prelude.{◌&&◌, not, true, ◌≡◌, ℕ, ◌+◌, ◌-◌, ◌<◌, ◌≤◌, ◌^◌, eqb, leb};

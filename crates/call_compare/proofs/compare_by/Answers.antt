@@ -86,7 +86,8 @@ compare_lists-requires c =
     let a = c.args in
     let l : GeneratorList = record { n = a.n1; signs = a.signs1.now; z = a.z1.now; x = a.x1.now } in
     let m : GeneratorList = record { n = a.n2; signs = a.signs2.now; z = a.z2.now; x = a.x2.now } in
-    let few = at-most-64 l m (sym c.pair_count.ensures ∙ c.if-pair_count.false) in record { le_n = (
+    let few = at-most-64 l m (sym c.pair_count.ensures ∙ c.if-pair_count.false) in record {
+      le_n = (
         at_least_one l m (sym c.pair_count.ensures
             ∙ c.if-pair_count.false),
         few,
@@ -96,7 +97,9 @@ compare_lists-requires c =
         list-fits a.limited l m a.choice.now a.list.now a.count.now (sym c.pair_count.ensures
             ∙ c.if-pair_count.false) _ (ap₂ ◌||◌ c.other_than.ensures c.other_than-2.ensures)
             c.if-other_than.false,
-      ); neighbours1_len = (part-long _ _ few refl, part-long _ _ few refl, part-long _ _ few refl, part-long _ _ few refl) }
+      );
+      neighbours1_len = (part-long _ _ few refl, part-long _ _ few refl, part-long _ _ few refl, part-long _ _ few refl);
+    }
 
 pub returns : goal.returns
 returns c =

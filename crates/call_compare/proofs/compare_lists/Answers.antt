@@ -16,17 +16,21 @@ returns-then-early-ne0 c =
 pub compare_reduced-requires : goal.compare_reduced-requires
 compare_reduced-requires c =
     let a = c.args in
-    let z = c.if-early-ne0.false in record { accepted_record = first-accepted a.limited a.n a.signs1.now a.z1.now a.x1.now a.signs2.now
+    let z = c.if-early-ne0.false in record {
+      accepted_record = first-accepted a.limited a.n a.signs1.now a.z1.now a.x1.now a.signs2.now
           a.z2.now a.x2.now
           a.choice.now a.list.now c.requires.le_n.0 c.requires.le_n.1 c.requires.le_n.2 c.requires.le_n.3
           a.neighbours1.now a.codes1.now a.neighbours2.now a.codes2.now _ _ _ _
           c.requires.neighbours1_len.0 c.requires.neighbours1_len.1 c.requires.neighbours1_len.2 c.requires.neighbours1_len.3 _ _ _
-          c.reduce-first.ensures c.reduce-second.ensures c.earlier-early.ensures z; accepted_record_2 = second-accepted a.limited a.n a.signs1.now a.z1.now a.x1.now a.signs2.now a.z2.now
-            a.x2.now
-            a.choice.now a.list.now c.requires.le_n.0 c.requires.le_n.1 c.requires.le_n.2 c.requires.le_n.3
-            a.neighbours1.now a.codes1.now a.neighbours2.now a.codes2.now _ _ _ _
-            c.requires.neighbours1_len.0 c.requires.neighbours1_len.1 c.requires.neighbours1_len.2 c.requires.neighbours1_len.3 _ _ _
-            c.reduce-first.ensures c.reduce-second.ensures c.earlier-early.ensures z; choice_len = (c.requires.le_n.2, c.requires.le_n.3) }
+          c.reduce-first.ensures c.reduce-second.ensures c.earlier-early.ensures z;
+      accepted_record_2 = second-accepted a.limited a.n a.signs1.now a.z1.now a.x1.now a.signs2.now a.z2.now
+          a.x2.now
+          a.choice.now a.list.now c.requires.le_n.0 c.requires.le_n.1 c.requires.le_n.2 c.requires.le_n.3
+          a.neighbours1.now a.codes1.now a.neighbours2.now a.codes2.now _ _ _ _
+          c.requires.neighbours1_len.0 c.requires.neighbours1_len.1 c.requires.neighbours1_len.2 c.requires.neighbours1_len.3 _ _ _
+          c.reduce-first.ensures c.reduce-second.ensures c.earlier-early.ensures z;
+      choice_len = (c.requires.le_n.2, c.requires.le_n.3);
+    }
 
 pub returns : goal.returns
 returns c =

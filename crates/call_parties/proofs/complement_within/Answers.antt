@@ -42,11 +42,14 @@ returns-then-number-ne0 c =
 pub put_party-requires : goal.put_party-requires
 put_party-requires c =
     let S = c.before.before.before.before.before.before.before.before.before.before.before.before.before.before.before.before.before.before.before.before.before in
-    let L = lent-64 S.args.word S.args.party (lent S) (asked S) S.requires.admitted in record { words_len = (
+    let L = lent-64 S.args.word S.args.party (lent S) (asked S) S.requires.admitted in record {
+      words_len = (
         c.words-2-1.given
             ∙ c.words-1.given ∙ S.requires.words_len.0,
         c.bytes-2-1.given ∙ c.bytes-1.given ∙ S.requires.words_len.1,
-      ); neighbours_len = L }
+      );
+      neighbours_len = L;
+    }
 
 pub returns : goal.returns
 returns c =

@@ -41,7 +41,6 @@ number E =
 pub returns-then-early-ne0 : goal.returns-then-early-ne0
 returns-then-early-ne0 c =
     let E = c.before in
-    
     let S = E.before.before.before.before.before in
     refused _ (early-refused S.args.word S.args.party (lent S) (asked S) (cz-op _ _) (number E) c.if-early-ne0.true)
     c.if-early-ne0.true (refl, (refl, tt))
@@ -49,6 +48,8 @@ returns-then-early-ne0 c =
 pub cz_within-requires : goal.cz_within-requires
 cz_within-requires c =
     let E = c.before.before.before.before.before in
-    
-    let S = E.before.before.before.before.before in record { admitted = early-admitted S.args.word S.args.party (lent S) (asked S)
-          (number E) c.if-early-ne0.false; words_len = (refl {a = 64}, refl {a = 64}) }
+    let S = E.before.before.before.before.before in record {
+      admitted = early-admitted S.args.word S.args.party (lent S) (asked S)
+          (number E) c.if-early-ne0.false;
+      words_len = (refl {a = 64}, refl {a = 64});
+    }

@@ -40,7 +40,6 @@ number E =
 pub returns-then-early-ne0 : goal.returns-then-early-ne0
 returns-then-early-ne0 c =
     let E = c.before in
-    
     let S = E.before.before.before.before in
     refused _ (early-refused S.args.word S.args.party (lent S) (asked S) (gate-op _ _)
     (number E) c.if-early-ne0.true)
@@ -49,6 +48,8 @@ returns-then-early-ne0 c =
 pub gate_within-requires : goal.gate_within-requires
 gate_within-requires c =
     let E = c.before.before.before.before.before in
-    
-    let S = E.before.before.before.before in record { admitted = early-admitted S.args.word S.args.party (lent S) (asked S)
-          (number E) c.if-early-ne0.false; words_len = (refl {a = 64}, refl {a = 64}) }
+    let S = E.before.before.before.before in record {
+      admitted = early-admitted S.args.word S.args.party (lent S) (asked S)
+          (number E) c.if-early-ne0.false;
+      words_len = (refl {a = 64}, refl {a = 64});
+    }

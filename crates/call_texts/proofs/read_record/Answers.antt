@@ -41,7 +41,6 @@ returns-then-not-form c =
 pub returns-then-number-ne0 : goal.returns-then-number-ne0
 returns-then-number-ne0 c =
     let O = c.before.before.before.before.before in
-    
     let R = O.before.before.before.before.before in
     let a = (at R).args in
     read-refused a.text.now a.n.now a.neighbours.now a.codes.now a.used.now R.read_text-read.result
@@ -50,7 +49,6 @@ returns-then-number-ne0 c =
 pub take_record-requires : goal.take_record-requires
 take_record-requires c =
     let O = c.before.before.before.before.before.before.before.before.before in
-    
     let R = O.before.before.before.before.before in
     let a = (at R).args in let whole = read-room a.text.now a.n.now a.neighbours.now a.codes.now a.used.now R.read_text-read.result
     R.read_text-read.ensures (not-false _ O.if-not-form.false-raw) _ (others-are O) _ c.held_refusal-number.ensures c.if-number-ne0.false in record { i_bound = whole.0; n_in_bounds = whole.1 }
@@ -58,7 +56,6 @@ take_record-requires c =
 pub returns : goal.returns
 returns c =
     let O = c.before.before.before.before.before.before.before.before.before.before.before.before.before.before in
-    
     let R = O.before.before.before.before.before in
     let a = (at R).args in
     read_done a.text.now a.n.now a.neighbours.now a.codes.now a.used.now R.read_text-read.result

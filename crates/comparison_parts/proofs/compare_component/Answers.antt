@@ -11,9 +11,12 @@ use Rattle.comparison_parts.proofs.compare_component.Goals as goal
 -- src/lib.rt:86:9
 pub returns-then-spread-component : goal.returns-then-spread-component
 returns-then-spread-component c =
-    let a = c.args in record { component_answer = leaves-refused a.n a.neighbours.now a.codes.now a.neighbours2.now a.codes2.now a.component
+    let a = c.args in record {
+      component_answer = leaves-refused a.n a.neighbours.now a.codes.now a.neighbours2.now a.codes2.now a.component
           c.requires.sound_pair c.requires.component.0 _ c.spread.ensures
-          c.if-spread-component.true a.choice; empty_from = c.requires.component.1 }
+          c.if-spread-component.true a.choice;
+      empty_from = c.requires.component.1;
+    }
 
 -- src/lib.rt:103:9
 -- src/lib.rt:103:9
@@ -43,22 +46,27 @@ slice_bounds-compare_listed-end-4 c =
 pub compare_listed-answer-requires : goal.compare_listed-answer-requires
 compare_listed-answer-requires c =
     let a = c.args in
-    let few = c.vertices-listed.ensures.0 in record { numbered_pair = subst (λ m. NumberedPair a.n a.neighbours.now a.codes.now a.neighbours2.now a.codes2.now
+    let few = c.vertices-listed.ensures.0 in record {
+      numbered_pair = subst (λ m. NumberedPair a.n a.neighbours.now a.codes.now a.neighbours2.now a.codes2.now
           a.component m c.vertices-listed.result.at) (sym (part-long _ _ few refl))
           (numbered-pair a.n a.neighbours.now a.codes.now a.neighbours2.now a.codes2.now
           a.component c.requires.sound_pair c.requires.component.0 c.vertices-listed.result.count c.vertices-listed.result.at few
           c.vertices-listed.ensures.1
           (kept-closed a.n a.neighbours.now a.codes.now a.neighbours2.now a.codes2.now a.component
-          c.requires.sound_pair c.requires.component.0 _ c.spread.ensures c.if-spread-component.false)); numbers_len = (
-          part-long _ _ few refl ∙ sym (part-long _ _ few refl),
-          part-long _ _ few refl ∙ sym (part-long _ _ few refl),
-          part-long _ _ few refl ∙ sym (part-long _ _ few refl),
-        ); empty_from = c.requires.component.1 }
+          c.requires.sound_pair c.requires.component.0 _ c.spread.ensures c.if-spread-component.false));
+      numbers_len = (
+        part-long _ _ few refl ∙ sym (part-long _ _ few refl),
+        part-long _ _ few refl ∙ sym (part-long _ _ few refl),
+        part-long _ _ few refl ∙ sym (part-long _ _ few refl),
+      );
+      empty_from = c.requires.component.1;
+    }
 
 -- src/lib.rt:109:9
 pub returns-then-not-answer : goal.returns-then-not-answer
 returns-then-not-answer c =
-    let a = c.args in record { component_answer = part-refused a.n a.neighbours.now a.codes.now a.neighbours2.now a.codes2.now a.component
+    let a = c.args in record {
+      component_answer = part-refused a.n a.neighbours.now a.codes.now a.neighbours2.now a.codes2.now a.component
           c.requires.sound_pair c.requires.component.0 c.vertices-listed.result.count c.vertices-listed.result.at
           c.vertices-listed.ensures.0 c.vertices-listed.ensures.1
           (kept-closed a.n a.neighbours.now a.codes.now a.neighbours2.now a.codes2.now a.component
@@ -68,7 +76,9 @@ returns-then-not-answer c =
           c.vertices-listed.result.at c.compare_listed-answer.result.found
           c.compare_listed-answer.result.choice)
           (part-long _ _ c.vertices-listed.ensures.0 refl) c.compare_listed-answer.ensures.part_answer) (not-true _ c.if-not-answer.true)
-          a.choice; empty_from = c.compare_listed-answer.ensures.empty_from_2 }
+          a.choice;
+      empty_from = c.compare_listed-answer.ensures.empty_from_2;
+    }
 
 -- src/lib.rt:112:9
 pub placed-whole-requires : goal.placed-whole-requires
@@ -79,7 +89,8 @@ placed-whole-requires c =
 -- src/lib.rt:71:1
 pub returns : goal.returns
 returns c =
-    let a = c.args in record { component_answer = part-accepted a.n a.neighbours.now a.codes.now a.neighbours2.now a.codes2.now a.component
+    let a = c.args in record {
+      component_answer = part-accepted a.n a.neighbours.now a.codes.now a.neighbours2.now a.codes2.now a.component
           c.requires.sound_pair c.requires.component.0 c.vertices-listed.result.count c.vertices-listed.result.at
           c.vertices-listed.ensures.0 c.vertices-listed.ensures.1
           (kept-closed a.n a.neighbours.now a.codes.now a.neighbours2.now a.codes2.now a.component
@@ -89,4 +100,6 @@ returns c =
           c.vertices-listed.result.at c.compare_listed-answer.result.found
           c.compare_listed-answer.result.choice)
           (part-long _ _ c.vertices-listed.ensures.0 refl) c.compare_listed-answer.ensures.part_answer) (not-false _ c.if-not-answer.false)
-          a.choice _ c.placed-whole.ensures.0 c.placed-whole.ensures.1; empty_from = c.compare_listed-answer.ensures.empty_from_2 }
+          a.choice _ c.placed-whole.ensures.0 c.placed-whole.ensures.1;
+      empty_from = c.compare_listed-answer.ensures.empty_from_2;
+    }

@@ -27,22 +27,28 @@ loop-rest-init c =
 pub part-component-requires : goal.part-component-requires
 part-component-requires c =
     let a = c.args in
-    let F = c.requires.1.first in record { neighbours_len_bound = (
+    let F = c.requires.1.first in record {
+      neighbours_len_bound = (
         omega (arith, F.neighbours-long, c.requires.1.upto),
         vertex-in-buffer a.n a.neighbours.now a.codes.now a.neighbours2.now a.codes2.now c.requires.1
             c.loop-rest.rest c.loop-rest.choice c.loop-rest.invariant.0
             c.loop-rest-test.true _ c.smallest-q.ensures.0,
-      ); simple = subst (λ m. Simple m (graph_in a.neighbours.now)) (sym F.neighbours-long) F.simple }
+      );
+      simple = subst (λ m. Simple m (graph_in a.neighbours.now)) (sym F.neighbours-long) F.simple;
+    }
 
 -- src/lib.rt:135:13
 pub compare_component-whole-requires : goal.compare_component-whole-requires
 compare_component-whole-requires c =
-    let a = c.args in record { sound_pair = c.requires.1; component = (
+    let a = c.args in record {
+      sound_pair = c.requires.1;
+      component = (
         next-component a.n a.neighbours.now a.codes.now a.neighbours2.now a.codes2.now c.requires.1
             c.loop-rest.rest c.loop-rest.choice c.loop-rest.invariant.0
             c.loop-rest-test.true _ c.smallest-q.ensures.0 _ c.part-component.ensures,
         c.loop-rest.invariant.1,
-      ) }
+      );
+    }
 
 -- src/lib.rt:138:13
 pub returns-then-not-whole : goal.returns-then-not-whole

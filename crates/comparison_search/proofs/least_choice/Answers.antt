@@ -40,7 +40,8 @@ returns-then-not-answer c =
     let a = c.args in
     let T = c.class_table in
     let A = c.least_classes-answer in
-    let none = not-true A.result.found c.if-not-answer.true in record { least_answer = subst (λ b. LeastAnswer a.n (generators_of (generators_in a.first.now))
+    let none = not-true A.result.found c.if-not-answer.true in record {
+      least_answer = subst (λ b. LeastAnswer a.n (generators_of (generators_in a.first.now))
           (generators_of (generators_in a.second.now)) b A.result.choice) (sym none)
           (least-answer a.n (generators_of (generators_in a.first.now))
           (generators_of (generators_in a.second.now)) c.requires.setting.proper.within
@@ -49,19 +50,24 @@ returns-then-not-answer c =
           A.result.choice
           (none-works a.n (generators_in a.first.now) (generators_in a.second.now) a.frame c.requires.setting
           (equations_in c.class_table.new.table) T.ensures A.result.found
-          A.result.choice A.ensures none)); empty_from_2 = c.wipe.ensures }
+          A.result.choice A.ensures none));
+      empty_from_2 = c.wipe.ensures;
+    }
 
 pub sign_table-requires : goal.sign_table-requires
 sign_table-requires c =
     let a = c.args in
     let T = c.class_table in
     let A = c.least_classes-answer in
-    let C = A.ensures.some (not-false A.result.found c.if-not-answer.false) in record { setting = (c.requires.setting, C.codes, C.bare-codes); sent_up_to_sign = (
+    let C = A.ensures.some (not-false A.result.found c.if-not-answer.false) in record {
+      setting = (c.requires.setting, C.codes, C.bare-codes);
+      sent_up_to_sign = (
         classes-send a.n (generators_in a.first.now) (generators_in a.second.now) a.frame c.requires.setting
             (equations_in c.class_table.new.table) T.ensures
             (codes_of A.result.choice) C.chosen.hold,
         c.wipe.ensures,
-      ) }
+      );
+    }
 
 pub least_signs-choice-requires : goal.least_signs-choice-requires
 least_signs-choice-requires c =
@@ -69,7 +75,8 @@ least_signs-choice-requires c =
     let T = c.class_table in
     let A = c.least_classes-answer in
     let C = A.ensures.some (not-false A.result.found c.if-not-answer.false) in
-    let U = c.sign_table in record { n_bound = (
+    let U = c.sign_table in record {
+      n_bound = (
         c.requires.setting.few,
         U.ensures.0.triangular,
         signs-extend a.n (generators_in a.first.now) (generators_in a.second.now) a.frame c.requires.setting
@@ -78,7 +85,9 @@ least_signs-choice-requires c =
             (classes-send a.n (generators_in a.first.now) (generators_in a.second.now) a.frame c.requires.setting
             (equations_in c.class_table.new.table) T.ensures
             (codes_of A.result.choice) C.chosen.hold),
-      ); codes = A.ensures.codes }
+      );
+      codes = A.ensures.codes;
+    }
 
 pub wipe-requires-2 : goal.wipe-requires-2
 wipe-requires-2 c =
@@ -98,11 +107,14 @@ returns c =
     let C = A.ensures.some
     (not-false A.result.found c.if-not-answer.false) in
     let U = c.sign_table in
-    let L = c.least_signs-choice in record { least_answer = least-answer a.n (generators_of (generators_in a.first.now)) (generators_of (generators_in a.second.now))
+    let L = c.least_signs-choice in record {
+      least_answer = least-answer a.n (generators_of (generators_in a.first.now)) (generators_of (generators_in a.second.now))
           c.requires.setting.proper.within
           (framed-proper a.n (generators_of (generators_in a.second.now)) (codes_of a.frame)
           c.requires.setting.framed).within true
           L.result
           (chosen-works a.n (generators_in a.first.now) (generators_in a.second.now) a.frame c.requires.setting
           (equations_in T.new.table) T.ensures
-          A.result.choice C (equations_in c.sign_table.new.table) U.ensures L.result L.ensures); empty_from_2 = c.wipe-2.ensures }
+          A.result.choice C (equations_in c.sign_table.new.table) U.ensures L.result L.ensures);
+      empty_from_2 = c.wipe-2.ensures;
+    }

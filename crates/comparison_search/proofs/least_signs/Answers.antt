@@ -8,12 +8,11 @@ use Rattle.comparison.proofs.LeastChosen.{signs-begin, signs-end, signs-fit, sig
 use Rattle.comparison_search.proofs.least_signs.Goals as goal
 
 pub loop-q-init : goal.loop-q-init
-loop-q-init c =
-    (
-      signs-begin c.args.n (equations_in c.args.table.now) c.args.classes c.well_formed.1.1.0.1.0.1
-          c.requires.codes,
-      c.sign_words-held.ensures,
-    )
+loop-q-init c = (
+  signs-begin c.args.n (equations_in c.args.table.now) c.args.classes c.well_formed.1.1.0.1.0.1
+      c.requires.codes,
+  c.sign_words-held.ensures,
+)
 
 pub least_sign-v-requires : goal.least_sign-v-requires
 least_sign-v-requires c = omega (arith, c.requires.n_bound.0, c.loop-q-test.true)

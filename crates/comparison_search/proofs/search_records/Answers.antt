@@ -6,15 +6,21 @@ use Rattle.comparison_search.proofs.search_records.Goals as goal
 
 pub least_choice-answer-requires : goal.least_choice-answer-requires
 least_choice-answer-requires c =
-    let a = c.args in record { setting = records-setting a.n c.requires.n_bound.0 a.neighbours.now a.codes.now a.neighbours2.now
+    let a = c.args in record {
+      setting = records-setting a.n c.requires.n_bound.0 a.neighbours.now a.codes.now a.neighbours2.now
           a.codes2.now c.requires.n_bound.1 c.requires.sound_record.0 (generators_in c.generators.new.rows)
           (generators_in c.generators-2.new.rows) c.inverses-frame.result c.generators.ensures
-          c.generators-2.ensures c.inverses-frame.ensures.0 c.inverses-frame.ensures.1 c.requires.sound_record.1; empty_from = c.requires.empty_from }
+          c.generators-2.ensures c.inverses-frame.ensures.0 c.inverses-frame.ensures.1 c.requires.sound_record.1;
+      empty_from = c.requires.empty_from;
+    }
 
 pub returns : goal.returns
 returns c =
-    let a = c.args in record { least_answer = records-answer a.n c.requires.n_bound.0 a.neighbours.now a.codes.now a.neighbours2.now
+    let a = c.args in record {
+      least_answer = records-answer a.n c.requires.n_bound.0 a.neighbours.now a.codes.now a.neighbours2.now
           a.codes2.now c.requires.n_bound.1 c.requires.sound_record.0 (generators_in c.generators.new.rows)
           (generators_in c.generators-2.new.rows) c.inverses-frame.result c.generators.ensures
           c.generators-2.ensures c.least_choice-answer.result.found c.least_choice-answer.result.choice
-          c.least_choice-answer.ensures.least_answer; empty_from_2 = c.least_choice-answer.ensures.empty_from_2 }
+          c.least_choice-answer.ensures.least_answer;
+      empty_from_2 = c.least_choice-answer.ensures.empty_from_2;
+    }

@@ -44,12 +44,12 @@ loop-k-preserved c =
     let below = crossing-below c.args.n c.args.side (graph_in c.args.neighbours.now) _ _ c.requires.n_bound.2
     c.crossing_column-column.ensures in
     elim c.if-rest-ne0.branch [
-      then-rest-ne0 w ↦ rw (w.basis-is, w.rank-is) (column-stored c.args.n c.requires.n_bound.0 M _ _ _
-      c.loop-k.invariant c.loop-k-test.true _ below c.crossing_column-column.ensures _
-      c.remainder-rest.ensures w.if-rest-ne0.true _ w.smallest.ensures.0)
-    | else-rest-ne0 w ↦ rw (w.basis-is, w.rank-is) (column-passed c.args.n c.requires.n_bound.0 M _ _ _
-      c.loop-k.invariant c.loop-k-test.true _ below c.crossing_column-column.ensures _
-      c.remainder-rest.ensures w.if-rest-ne0.false)
+      | then-rest-ne0 w ↦ rw (w.basis-is, w.rank-is) (column-stored c.args.n c.requires.n_bound.0 M _ _ _
+          c.loop-k.invariant c.loop-k-test.true _ below c.crossing_column-column.ensures _
+          c.remainder-rest.ensures w.if-rest-ne0.true _ w.smallest.ensures.0)
+      | else-rest-ne0 w ↦ rw (w.basis-is, w.rank-is) (column-passed c.args.n c.requires.n_bound.0 M _ _ _
+          c.loop-k.invariant c.loop-k-test.true _ below c.crossing_column-column.ensures _
+          c.remainder-rest.ensures w.if-rest-ne0.false)
     ]
 
 pub returns : goal.returns

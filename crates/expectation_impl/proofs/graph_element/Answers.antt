@@ -29,17 +29,16 @@ single-requires c =
 pub loop-j-preserved : goal.loop-j-preserved
 loop-j-preserved c =
     let L = c.loop-j in
-    
     let a = c.args in
     let test = c.has.ensures in
     let more = c.loop-j-test.true in
     elim c.if-has.branch [
-      then-has k ↦ subst (PartElement a.neighbours.now a.chosen (L.j + 1)) (sym k.element-is)
-    (element-on a.neighbours.now a.chosen c.requires.0 c.requires.1 L.j L.element L.invariant more _
-    k.single.ensures _ (sym test ∙ k.if-has.true) k.times-element.ensures)
-    | else-has k ↦ subst (PartElement a.neighbours.now a.chosen (L.j + 1)) (sym k.element-is)
-    (element-off a.neighbours.now a.chosen c.requires.0 c.requires.1 L.j L.element L.invariant more
-    (sym test ∙ k.if-has.false))
+      | then-has k ↦ subst (PartElement a.neighbours.now a.chosen (L.j + 1)) (sym k.element-is)
+          (element-on a.neighbours.now a.chosen c.requires.0 c.requires.1 L.j L.element L.invariant more _
+          k.single.ensures _ (sym test ∙ k.if-has.true) k.times-element.ensures)
+      | else-has k ↦ subst (PartElement a.neighbours.now a.chosen (L.j + 1)) (sym k.element-is)
+          (element-off a.neighbours.now a.chosen c.requires.0 c.requires.1 L.j L.element L.invariant more
+          (sym test ∙ k.if-has.false))
     ]
 
 pub returns : goal.returns

@@ -15,52 +15,52 @@ pub returns-then-k-eq2 : goal.returns-then-k-eq2
 unfolding numbered_op
 returns-then-k-eq2 c =
     simp (
-  ne_eqb _ _ c.if-k-eq0.false,
-  ne_eqb _ _ c.if-k-eq1.false,
-  eq-eqb _ _ c.if-k-eq2.true,
-)
+      ne_eqb _ _ c.if-k-eq0.false,
+      ne_eqb _ _ c.if-k-eq1.false,
+      eq-eqb _ _ c.if-k-eq2.true,
+    )
 
 pub returns-then-k-eq3 : goal.returns-then-k-eq3
 unfolding numbered_op
 returns-then-k-eq3 c =
     simp (
-  ne_eqb _ _ c.if-k-eq0.false,
-  ne_eqb _ _ c.if-k-eq1.false,
-  ne_eqb _ _ c.if-k-eq2.false,
-  eq-eqb _ _ c.if-k-eq3.true,
-)
+      ne_eqb _ _ c.if-k-eq0.false,
+      ne_eqb _ _ c.if-k-eq1.false,
+      ne_eqb _ _ c.if-k-eq2.false,
+      eq-eqb _ _ c.if-k-eq3.true,
+    )
 
 pub returns-then-k-eq4 : goal.returns-then-k-eq4
 unfolding numbered_op
 returns-then-k-eq4 c =
     simp (
-  ne_eqb _ _ c.if-k-eq0.false,
-  ne_eqb _ _ c.if-k-eq1.false,
-  ne_eqb _ _ c.if-k-eq2.false,
-  ne_eqb _ _ c.if-k-eq3.false,
-  eq-eqb _ _ c.if-k-eq4.true,
-)
+      ne_eqb _ _ c.if-k-eq0.false,
+      ne_eqb _ _ c.if-k-eq1.false,
+      ne_eqb _ _ c.if-k-eq2.false,
+      ne_eqb _ _ c.if-k-eq3.false,
+      eq-eqb _ _ c.if-k-eq4.true,
+    )
 
 pub returns-then-k-eq5 : goal.returns-then-k-eq5
 unfolding numbered_op
 returns-then-k-eq5 c =
     simp (
-  ne_eqb _ _ c.if-k-eq0.false,
-  ne_eqb _ _ c.if-k-eq1.false,
-  ne_eqb _ _ c.if-k-eq2.false,
-  ne_eqb _ _ c.if-k-eq3.false,
-  ne_eqb _ _ c.if-k-eq4.false,
-  eq-eqb _ _ c.if-k-eq5.true,
-)
+      ne_eqb _ _ c.if-k-eq0.false,
+      ne_eqb _ _ c.if-k-eq1.false,
+      ne_eqb _ _ c.if-k-eq2.false,
+      ne_eqb _ _ c.if-k-eq3.false,
+      ne_eqb _ _ c.if-k-eq4.false,
+      eq-eqb _ _ c.if-k-eq5.true,
+    )
 
 pub returns : goal.returns
 unfolding numbered_op
 returns c =
     simp (
-  ne_eqb _ _ c.if-k-eq0.false,
-  ne_eqb _ _ c.if-k-eq1.false,
-  ne_eqb _ _ c.if-k-eq2.false,
-  ne_eqb _ _ c.if-k-eq3.false,
-  ne_eqb _ _ c.if-k-eq4.false,
-  ne_eqb _ _ c.if-k-eq5.false,
-)
+      ne_eqb _ _ c.if-k-eq0.false,
+      ne_eqb _ _ c.if-k-eq1.false,
+      ne_eqb _ _ c.if-k-eq2.false,
+      ne_eqb _ _ c.if-k-eq3.false,
+      ne_eqb _ _ c.if-k-eq4.false,
+      ne_eqb _ _ c.if-k-eq5.false,
+    )

@@ -16,7 +16,6 @@ single-requires c =
 pub settle_all-requires : goal.settle_all-requires
 settle_all-requires c =
     let a = c.args in
-    
     let gated = c.gate_code.ensures in
     let own = c.single.ensures in record { unrefused = gated-unrefused _ _ c.requires.unrefused a.q c.requires.q_in_bounds.0 a.k _ gated; suspected = gate-suspected _ _ a.q _ _ gated _ a.touched own c.requires.suspected.0; watched = gate-watched _ _ a.q _ _ gated _ a.touched own c.requires.q_in_bounds.0 c.requires.suspected.1 }
 

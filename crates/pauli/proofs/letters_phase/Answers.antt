@@ -11,8 +11,8 @@ use Rattle.pauli.proofs.letters_phase.Goals as goal
 pub returns : goal.returns
 returns c =
     let a = c.args in (
-  ap₂ (λ u v. (u + 2 * v) % 4) c.count.ensures.0 c.count-2.ensures.0
-      ∙ sym (letters-exponent 64 a.z a.x a.z2 a.x2 (search rules) (search rules)
-      (search rules) (search rules) i⁰ i⁰),
-  mod-lt _ (lit< tt),
-)
+      ap₂ (λ u v. (u + 2 * v) % 4) c.count.ensures.0 c.count-2.ensures.0
+          ∙ sym (letters-exponent 64 a.z a.x a.z2 a.x2 (search rules) (search rules)
+          (search rules) (search rules) i⁰ i⁰),
+      mod-lt _ (lit< tt),
+    )

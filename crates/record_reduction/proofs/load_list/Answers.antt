@@ -11,13 +11,11 @@ loop-j-init c =
 pub loop-j-preserved : goal.loop-j-preserved
 loop-j-preserved c =
     let L = c.loop-j in
-    
     load_step _ L.loaded L.minuses L.j L.invariant c.loop-j-test.true c.requires.n_bound.0 _ _ _ refl refl
     c.flip_where.ensures
 
 pub returns : goal.returns
 returns c =
     let L = c.loop-j in
-    
     load-end _ L.loaded L.minuses L.j L.invariant c.loop-j-test.false c.requires.n_bound.1 c.requires.n_bound.2
     c.requires.n_bound.3

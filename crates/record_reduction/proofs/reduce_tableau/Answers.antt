@@ -155,7 +155,6 @@ loop-k-init c =
 pub loop-k-preserved : goal.loop-k-preserved
 loop-k-preserved c =
     let L = c.loop-k in
-    
     paired-step c.args.rows c.args.signs c.args.n L.signs L.k L.invariant c.loop-k-test.true
     c.odd_pairs.ensures c.flip_where-signs.ensures
 
@@ -173,17 +172,15 @@ loaded c = related-loaded (start-2 c).args.n (related c) (start-2 c).requires.lo
 
 -- ---- the rounds
 pub loop-round-init : goal.loop-round-init
-loop-round-init c =
-    (
-      stage-start c.args.n c.mask-all.result (relative (bit c.loop-k.signs) c.args.rows) 0,
-      c.well_formed.0.1.0.1,
-    )
+loop-round-init c = (
+  stage-start c.args.n c.mask-all.result (relative (bit c.loop-k.signs) c.args.rows) 0,
+  c.well_formed.0.1.0.1,
+)
 
 loaded2 : (c : InLoop2) → Loaded (start-2 c.before).args.n (relative (bit c.loop-round.signs)
     c.loop-round.rows)
 loaded2 c =
     let A = c.before in
-    
     let S = start-2 A in
     let L = A.loop-round in
     stage-loaded S.args.n S.requires.le_n.1 A.mask-all.result A.mask-all.ensures
@@ -333,26 +330,26 @@ lent_row c j =
 long : (c : Joined3) → length c.if-not-has-2.rows ≡ 64
 long c =
     elim c.if-not-has-2.branch [
-      then-not-has-2 w ↦ ap length w.rows-is ∙ lent-long (record {
-      before = record {
+      | then-not-has-2 w ↦ ap length w.rows-is ∙ lent-long (record {
         before = record {
           before = record {
             before = record {
               before = record {
-                before = record { before = record { before = c.before; if-not-has-2 = w.if-not-has-2 }; smallest-i = w.smallest-i };
-                lender-1 = w.lender-1;
+                before = record {
+                  before = record { before = record { before = c.before; if-not-has-2 = w.if-not-has-2 }; smallest-i = w.smallest-i };
+                  lender-1 = w.lender-1;
+                };
+                row-then-not-has-2-1 = w.row-then-not-has-2-1;
               };
-              row-then-not-has-2-1 = w.row-then-not-has-2-1;
+              minus_word = w.minus_word;
             };
-            minus_word = w.minus_word;
+            odd-minus = w.odd-minus;
           };
-          odd-minus = w.odd-minus;
+          has-then-not-has-2 = w.has-then-not-has-2;
         };
-        has-then-not-has-2 = w.has-then-not-has-2;
-      };
-      flip_where-signs-then-not-has-2 = w.flip_where-signs-then-not-has-2;
-    })
-    | else-not-has-2 w ↦ ap length w.rows-is ∙ (turn c.before.before).loop-q.invariant.1
+        flip_where-signs-then-not-has-2 = w.flip_where-signs-then-not-has-2;
+      })
+      | else-not-has-2 w ↦ ap length w.rows-is ∙ (turn c.before.before).loop-q.invariant.1
     ]
 
 lent : (c : Joined3) (j : ℕ) → relative (bit c.if-not-has-2.signs) c.if-not-has-2.rows j
@@ -361,33 +358,33 @@ lent c j =
     let D = c.before.before in
     let C = (turn D) in
     elim c.if-not-has-2.branch [
-      then-not-has-2 w ↦ ap₂ (λ m v. relative (bit m) v j) w.signs-is w.rows-is ∙ lent_row (record {
-      before = record {
+      | then-not-has-2 w ↦ ap₂ (λ m v. relative (bit m) v j) w.signs-is w.rows-is ∙ lent_row (record {
         before = record {
-          before =
-              record {
-                before = record {
+          before = record {
+            before =
+                record {
                   before = record {
                     before = record {
-                      before = record { before = c.before; if-not-has-2 = w.if-not-has-2 };
-                      smallest-i = w.smallest-i;
+                      before = record {
+                        before = record { before = c.before; if-not-has-2 = w.if-not-has-2 };
+                        smallest-i = w.smallest-i;
+                      };
+                      lender-1 = w.lender-1;
                     };
-                    lender-1 = w.lender-1;
+                    row-then-not-has-2-1 = w.row-then-not-has-2-1;
                   };
-                  row-then-not-has-2-1 = w.row-then-not-has-2-1;
+                  minus_word = w.minus_word;
                 };
-                minus_word = w.minus_word;
-              };
-          odd-minus = w.odd-minus;
+            odd-minus = w.odd-minus;
+          };
+          has-then-not-has-2 = w.has-then-not-has-2;
         };
-        has-then-not-has-2 = w.has-then-not-has-2;
-      };
-      flip_where-signs-then-not-has-2 = w.flip_where-signs-then-not-has-2;
-    })
-    j
-    | else-not-has-2 w ↦ ap₂ (λ m v. relative (bit m) v j) w.signs-is w.rows-is
-    ∙ lent-already (rows_in C) C.loop-q.q (count_trailing_zeros 64 (free_in D)) D.loop-j.holders
-    (ready D _ refl) (sym c.has-then-free-ne0.ensures ∙ w.if-not-has-2.false) j
+        flip_where-signs-then-not-has-2 = w.flip_where-signs-then-not-has-2;
+      })
+          j
+      | else-not-has-2 w ↦ ap₂ (λ m v. relative (bit m) v j) w.signs-is w.rows-is
+          ∙ lent-already (rows_in C) C.loop-q.q (count_trailing_zeros 64 (free_in D)) D.loop-j.holders
+          (ready D _ refl) (sym c.has-then-free-ne0.ensures ∙ w.if-not-has-2.false) j
     ]
 
 not_named : (c : AfterPutBit) → bit c.put_bit-rest.result (turn c.before.before.before.before).loop-q.q
@@ -456,7 +453,6 @@ next : (c : AfterSmallest2) → (c.smallest-i-in-loop-rest.result < 64) × (bit 
 next c =
     let L = c.loop-rest in
     let K = c.before.before.before in
-    
     next_row K.if-not-has-2.rows (signs-before K) (column-laid K) K.put_bit-rest.result L.rows
     (without_sign L.signs (bit (signs-laid K) (column-laid K)) L.rest) L.rest L.invariant (named-far K)
     c.loop-rest-test.true
@@ -473,8 +469,6 @@ minus_word-minus-requires c =
     let N = c.before.before in
     let L = N.loop-rest in
     let K = N.before.before.before in
-    
-    
     next-commutes K.if-not-has-2.rows (signs-before K) (column-laid K) K.put_bit-rest.result L.rows
     (without_sign L.signs (bit (signs-laid K) (column-laid K)) L.rest) L.rest N.smallest-i-in-loop-rest.result L.invariant
     (next N).1 (next N).0
@@ -512,8 +506,6 @@ loop-rest-preserved c =
     let L = N.loop-rest in
     let K = N.before.before.before in
     let P = K.before.before.before in
-    
-    
     shear-step P.if-not-has-2.rows (signs-before K) (column-laid K) P.put_bit-rest.result L.rows
     (without_sign L.signs (bit (signs-laid K) (column-laid K)) L.rest) L.rest N.smallest-i-in-loop-rest.result L.invariant
     (next N).1 (next N).0
@@ -532,8 +524,6 @@ pivot-done : (c : AfterLoop5) (j : ℕ) → relative (bit c.loop-rest.signs) c.l
 pivot-done c j =
     let L = c.loop-rest in
     let K = c.before.before in
-    
-    
     let D = K.before.before.before.before.before.before.before in
     let C = (turn D) in
     ap (λ b. relative_row b (get_or L.rows j [])) (sym (sign-end L.signs L.rest
@@ -553,82 +543,82 @@ loop-q-preserved c =
     let L = C.loop-q in (
       omega arith,
       elim c.if-not-has.branch [
-      then-not-has+else-loop-j-test+then-free-ne0+else-loop-rest-test w ↦ ap length w.rows-is ∙ w.loop-rest.invariant.long
-    | then-not-has+else-loop-j-test+else-free-ne0 w ↦ ap length w.rows-is ∙ L.invariant.1
-    | else-not-has w ↦ ap length w.rows-is ∙ L.invariant.1
-    ],
+        | then-not-has+else-loop-j-test+then-free-ne0+else-loop-rest-test w ↦ ap length w.rows-is ∙ w.loop-rest.invariant.long
+        | then-not-has+else-loop-j-test+else-free-ne0 w ↦ ap length w.rows-is ∙ L.invariant.1
+        | else-not-has w ↦ ap length w.rows-is ∙ L.invariant.1
+      ],
       eliminated-at (sym (add-one L.q))
           (elim c.if-not-has.branch [
-      then-not-has+else-loop-j-test+then-free-ne0+else-loop-rest-test w ↦ column-pivoted S.args.n L.q S.requires.le_n.1 C.loop-q-test.true (rows_in C) (loaded3 C)
-          w.loop-j.holders
-          L.pivots _ (holders (record {
-            before = record {
-              before = record { before = c.before.before; if-not-has = w.if-not-has };
-              loop-j = w.loop-j;
-            };
-            loop-j-test = w.loop-j-test;
-          })) refl _
-          (free-row S.args.n L.q S.requires.le_n.1 C.loop-q-test.true (rows_in C) (loaded3 C) w.loop-j.holders
-          L.pivots _ (holders (record {
-            before = record {
-              before = record { before = c.before.before; if-not-has = w.if-not-has };
-              loop-j = w.loop-j;
-            };
-            loop-j-test = w.loop-j-test;
-          })) refl w.if-free-ne0.true _ refl) _
-          (λ j. ap₂ (λ m v. relative (bit m) v j) w.signs-is w.rows-is ∙ pivot-done (record {
-            before = record {
-              before = record {
-                before = record {
+            | then-not-has+else-loop-j-test+then-free-ne0+else-loop-rest-test w ↦ column-pivoted S.args.n L.q S.requires.le_n.1 C.loop-q-test.true (rows_in C) (loaded3 C)
+                w.loop-j.holders
+                L.pivots _ (holders (record {
+                  before = record {
+                    before = record { before = c.before.before; if-not-has = w.if-not-has };
+                    loop-j = w.loop-j;
+                  };
+                  loop-j-test = w.loop-j-test;
+                })) refl _
+                (free-row S.args.n L.q S.requires.le_n.1 C.loop-q-test.true (rows_in C) (loaded3 C) w.loop-j.holders
+                L.pivots _ (holders (record {
+                  before = record {
+                    before = record { before = c.before.before; if-not-has = w.if-not-has };
+                    loop-j = w.loop-j;
+                  };
+                  loop-j-test = w.loop-j-test;
+                })) refl w.if-free-ne0.true _ refl) _
+                (λ j. ap₂ (λ m v. relative (bit m) v j) w.signs-is w.rows-is ∙ pivot-done (record {
                   before = record {
                     before = record {
                       before = record {
                         before = record {
                           before = record {
-                            before =
-                                record {
-                                  before = record {
-                                    before = record {
-                                      before = record { before = c.before.before; if-not-has = w.if-not-has };
-                                      loop-j =
-                                          w.loop-j;
-                                    };
-                                    loop-j-test = w.loop-j-test;
-                                  };
-                                  if-free-ne0 = w.if-free-ne0;
+                            before = record {
+                              before = record {
+                                before = record {
+                                  before =
+                                      record {
+                                        before = record {
+                                          before = record {
+                                            before = record { before = c.before.before; if-not-has = w.if-not-has };
+                                            loop-j =
+                                                w.loop-j;
+                                          };
+                                          loop-j-test = w.loop-j-test;
+                                        };
+                                        if-free-ne0 = w.if-free-ne0;
+                                      };
+                                  has-then-free-ne0 = w.has-then-free-ne0;
                                 };
-                            has-then-free-ne0 = w.has-then-free-ne0;
+                                if-not-has-2 = w.if-not-has-2;
+                              };
+                              by-1 = w.by-1;
+                            };
+                            put_bit-rest = w.put_bit-rest;
                           };
-                          if-not-has-2 = w.if-not-has-2;
+                          has-then-free-ne0-2 = w.has-then-free-ne0-2;
                         };
-                        by-1 = w.by-1;
+                        where_true-signs = w.where_true-signs;
                       };
-                      put_bit-rest = w.put_bit-rest;
+                      row_known-1 = w.row_known-1;
                     };
-                    has-then-free-ne0-2 = w.has-then-free-ne0-2;
+                    loop-rest = w.loop-rest;
                   };
-                  where_true-signs = w.where_true-signs;
-                };
-                row_known-1 = w.row_known-1;
-              };
-              loop-rest = w.loop-rest;
-            };
-            loop-rest-test = w.loop-rest-test;
-          }) j) _
-          (λ j. ap (λ v. bit v j) w.pivots-is ∙ w.put_bit-pivots.ensures j) _ _ L.invariant.2
-    | then-not-has+else-loop-j-test+else-free-ne0 w ↦ same-state w.signs-is w.pivots-is w.rows-is
-          (column-skipped S.args.n L.q S.requires.le_n.1 C.loop-q-test.true (rows_in C) (loaded3 C)
-          w.loop-j.holders
-          L.pivots _ (holders (record {
-            before = record {
-              before = record { before = c.before.before; if-not-has = w.if-not-has };
-              loop-j = w.loop-j;
-            };
-            loop-j-test = w.loop-j-test;
-          })) refl w.if-free-ne0.false _ _ L.invariant.2)
-    | else-not-has w ↦ same-state w.signs-is w.pivots-is w.rows-is
-          (pivoted L.invariant.2 C.loop-q-test.true (sym c.has.ensures ∙ w.if-not-has.false))
-    ]),
+                  loop-rest-test = w.loop-rest-test;
+                }) j) _
+                (λ j. ap (λ v. bit v j) w.pivots-is ∙ w.put_bit-pivots.ensures j) _ _ L.invariant.2
+            | then-not-has+else-loop-j-test+else-free-ne0 w ↦ same-state w.signs-is w.pivots-is w.rows-is
+                (column-skipped S.args.n L.q S.requires.le_n.1 C.loop-q-test.true (rows_in C) (loaded3 C)
+                w.loop-j.holders
+                L.pivots _ (holders (record {
+                  before = record {
+                    before = record { before = c.before.before; if-not-has = w.if-not-has };
+                    loop-j = w.loop-j;
+                  };
+                  loop-j-test = w.loop-j-test;
+                })) refl w.if-free-ne0.false _ _ L.invariant.2)
+            | else-not-has w ↦ same-state w.signs-is w.pivots-is w.rows-is
+                (pivoted L.invariant.2 C.loop-q-test.true (sym c.has.ensures ∙ w.if-not-has.false))
+          ]),
     )
 
 -- ---- the Hadamards
@@ -649,7 +639,6 @@ few : (c : Then4) → bit_xor c.mask-all.result
     c.loop-q.pivots < 2 ^ 64
 few c =
     let A = c.before.before.before.before in
-    
     let S = start-2 A in
     let L = A.loop-round in
     stage-turned S.args.n S.requires.le_n.1 A.mask-all.result A.mask-all.ensures
@@ -661,7 +650,6 @@ pub loop-i-preserved : goal.loop-i-preserved
 loop-i-preserved c =
     let L = c.loop-i in
     let F = c.before.before.before.before.before.before in
-    
     let S = (start-2 F.before.before.before.before) in
     rotate-step F.loop-q.rows F.loop-q.signs S.args.n _ L.rows L.signs L.i L.invariant
     c.loop-i-test.true
@@ -671,42 +659,41 @@ loop-i-preserved c =
 pub loop-round-preserved : goal.loop-round-preserved
 loop-round-preserved c =
     let A = c.before.before.before.before.before in
-    
     let S = start-2 A in
     let L = A.loop-round in
     let P = c.loop-q in (
       elim c.if-round-eq0.branch [
-      then-round-eq0+else-loop-i-test w ↦ subst (λ h. Stage S.args.n A.mask-all.result (relative (bit A.loop-k.signs) S.args.rows)
-          (relative (bit c.if-round-eq0.signs) c.if-round-eq0.rows) P.pivots h (L.round + 1)) (sym w.hadamards-is)
-          (first_round S.args.n S.requires.le_n.1 A.mask-all.result A.mask-all.ensures
-          (relative (bit A.loop-k.signs) S.args.rows) (loaded A) (relative (bit L.signs) L.rows) L.pivots
-          L.hadamards
-          L.round L.invariant.0 w.if-round-eq0.true (relative (bit P.signs) P.rows) P.pivots (passed c.before.before) _
-          refl
-          (relative (bit c.if-round-eq0.signs) c.if-round-eq0.rows)
-          (λ j. ap₂ (λ m v. relative (bit m) v j) w.signs-is w.rows-is
-          ∙ rotate-end P.rows P.signs S.args.n _ w.loop-i.rows w.loop-i.signs w.loop-i.i w.loop-i.invariant w.loop-i-test.false
-          (eliminated-loaded S.args.n S.requires.le_n.1 (loaded2 c.before.before.before.before)
-          (passed c.before.before)).beyond
-          j))
-    | else-round-eq0 w ↦ subst (λ h. Stage S.args.n A.mask-all.result (relative (bit A.loop-k.signs) S.args.rows)
-          (relative (bit c.if-round-eq0.signs) c.if-round-eq0.rows) P.pivots h (L.round + 1)) (sym w.hadamards-is)
-          (second-round S.args.n S.requires.le_n.1 A.mask-all.result A.mask-all.ensures
-          (relative (bit A.loop-k.signs) S.args.rows) (loaded A) (relative (bit L.signs) L.rows) L.pivots
-          L.hadamards
-          L.round L.invariant.0 c.loop-round-test.true w.if-round-eq0.false
-          (relative (bit c.if-round-eq0.signs)
-          c.if-round-eq0.rows)
-          P.pivots
-          (subst (λ f. Eliminated S.args.n (relative (bit L.signs) L.rows) (bit L.pivots) f
-          (bit P.pivots)
-          S.args.n)
-          (ap₂ (λ m v. relative (bit m) v) (sym w.signs-is) (sym w.rows-is)) (passed c.before.before)))
-    ],
+        | then-round-eq0+else-loop-i-test w ↦ subst (λ h. Stage S.args.n A.mask-all.result (relative (bit A.loop-k.signs) S.args.rows)
+            (relative (bit c.if-round-eq0.signs) c.if-round-eq0.rows) P.pivots h (L.round + 1)) (sym w.hadamards-is)
+            (first_round S.args.n S.requires.le_n.1 A.mask-all.result A.mask-all.ensures
+            (relative (bit A.loop-k.signs) S.args.rows) (loaded A) (relative (bit L.signs) L.rows) L.pivots
+            L.hadamards
+            L.round L.invariant.0 w.if-round-eq0.true (relative (bit P.signs) P.rows) P.pivots (passed c.before.before) _
+            refl
+            (relative (bit c.if-round-eq0.signs) c.if-round-eq0.rows)
+            (λ j. ap₂ (λ m v. relative (bit m) v j) w.signs-is w.rows-is
+            ∙ rotate-end P.rows P.signs S.args.n _ w.loop-i.rows w.loop-i.signs w.loop-i.i w.loop-i.invariant w.loop-i-test.false
+            (eliminated-loaded S.args.n S.requires.le_n.1 (loaded2 c.before.before.before.before)
+            (passed c.before.before)).beyond
+            j))
+        | else-round-eq0 w ↦ subst (λ h. Stage S.args.n A.mask-all.result (relative (bit A.loop-k.signs) S.args.rows)
+            (relative (bit c.if-round-eq0.signs) c.if-round-eq0.rows) P.pivots h (L.round + 1)) (sym w.hadamards-is)
+            (second-round S.args.n S.requires.le_n.1 A.mask-all.result A.mask-all.ensures
+            (relative (bit A.loop-k.signs) S.args.rows) (loaded A) (relative (bit L.signs) L.rows) L.pivots
+            L.hadamards
+            L.round L.invariant.0 c.loop-round-test.true w.if-round-eq0.false
+            (relative (bit c.if-round-eq0.signs)
+            c.if-round-eq0.rows)
+            P.pivots
+            (subst (λ f. Eliminated S.args.n (relative (bit L.signs) L.rows) (bit L.pivots) f
+            (bit P.pivots)
+            S.args.n)
+            (ap₂ (λ m v. relative (bit m) v) (sym w.signs-is) (sym w.rows-is)) (passed c.before.before)))
+      ],
       elim c.if-round-eq0.branch [
-      then-round-eq0+else-loop-i-test w ↦ ap length w.rows-is ∙ w.loop-i.invariant.long
-    | else-round-eq0 w ↦ ap length w.rows-is ∙ P.invariant.1
-    ],
+        | then-round-eq0+else-loop-i-test w ↦ ap length w.rows-is ∙ w.loop-i.invariant.long
+        | else-round-eq0 w ↦ ap length w.rows-is ∙ P.invariant.1
+      ],
     )
 
 -- ---- the end
@@ -722,7 +709,6 @@ pub returns-then-pivots-all : goal.returns-then-pivots-all
 returns-then-pivots-all c =
     let E = c.before.before in
     let A = E.before in
-    
     let S = start-2 A in
     let L = A.loop-round in
     let bad = both-left-over S.args.n S.requires.le_n.1 A.mask-all.result A.mask-all.ensures
@@ -733,18 +719,19 @@ pub write_record-requires : goal.write_record-requires
 write_record-requires c =
     let E = c.before.before.before in
     let A = E.before in
-    
     let S = start-2 A in
-    let L = A.loop-round in record { n_bound = (S.requires.le_n.1, S.requires.le_n.2, S.requires.le_n.3); by_index = λ j _. end-within S.args.n S.requires.le_n.1 A.mask-all.result A.mask-all.ensures
+    let L = A.loop-round in record {
+      n_bound = (S.requires.le_n.1, S.requires.le_n.2, S.requires.le_n.3);
+      by_index = λ j _. end-within S.args.n S.requires.le_n.1 A.mask-all.result A.mask-all.ensures
           (relative (bit A.loop-k.signs) S.args.rows) (loaded A) L.rows L.signs L.pivots L.hadamards
           (ended E)
-          c.if-pivots-all.false j }
+          c.if-pivots-all.false j;
+    }
 
 pub returns : goal.returns
 returns c =
     let E = c.before.before.before.before.before.before.before.before.before in
     let A = E.before in
-    
     let S = start-2 A in
     let L = A.loop-round in
     let good = both-complete S.args.n S.requires.le_n.1 A.mask-all.result A.mask-all.ensures

@@ -20,11 +20,10 @@ bounds-codes-j c =
     unrefused-place _ _ c.requires _ c.loop-j-test.true
 
 pub turns_of-requires : goal.turns_of-requires
-turns_of-requires c =
-    (
-      omega (arith, c.loop-j-test.true, unrefused-short _ _ c.requires),
-      chosen-low _ _ c.requires c.args.y _ (_, c.kept.ensures, refl) _ c.loop-j-test.true,
-    )
+turns_of-requires c = (
+  omega (arith, c.loop-j-test.true, unrefused-short _ _ c.requires),
+  chosen-low _ _ c.requires c.args.y _ (_, c.kept.ensures, refl) _ c.loop-j-test.true,
+)
 
 pub overflow_add-sum : goal.overflow_add-sum
 overflow_add-sum c =

@@ -11,15 +11,15 @@ returns-then-b-eq0 c = simp (ne_eqb _ _ c.if-a-eq0.false, eq-eqb _ _ c.if-b-eq0.
 pub returns-then-a-b : goal.returns-then-a-b
 returns-then-a-b c =
     simp (
-  ne_eqb _ _ c.if-a-eq0.false,
-  ne_eqb _ _ c.if-b-eq0.false,
-  lt-ltb _ _ c.if-a-b.true,
-)
+      ne_eqb _ _ c.if-a-eq0.false,
+      ne_eqb _ _ c.if-b-eq0.false,
+      lt-ltb _ _ c.if-a-b.true,
+    )
 
 pub returns-else-a-b : goal.returns-else-a-b
 returns-else-a-b c =
     simp (
-  ne_eqb _ _ c.if-a-eq0.false,
-  ne_eqb _ _ c.if-b-eq0.false,
-  le-ltb _ _ c.if-a-b.false,
-)
+      ne_eqb _ _ c.if-a-eq0.false,
+      ne_eqb _ _ c.if-b-eq0.false,
+      le-ltb _ _ c.if-a-b.false,
+    )

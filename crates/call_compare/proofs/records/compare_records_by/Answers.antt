@@ -40,22 +40,26 @@ compare_copies-requires c =
     let a = E.args in
     let l : LentRecord = lent_record a.n1 a.neighbours1.now a.codes1.now in
     let m : LentRecord = lent_record a.n2 a.neighbours2.now a.codes2.now in
-    let n-few = slice_bounds-words1-end (record { before = E; type_inv = record { list = E.slice_known-2-1.given; choice = E.slice_known-1.given; codes2 = E.shared_slice_known-4-1.given; neighbours2 = E.shared_slice_known-3-1.given; codes1 = E.shared_slice_known-2-1.given; neighbours1 = E.shared_slice_known-1.given } }) in record { unrefused = first-unrefused a.limited l m a.choice.now a.list.now (sym E.pair_count.ensures ∙ E.if-pair_count.false)
+    let n-few = slice_bounds-words1-end (record { before = E; type_inv = record { list = E.slice_known-2-1.given; choice = E.slice_known-1.given; codes2 = E.shared_slice_known-4-1.given; neighbours2 = E.shared_slice_known-3-1.given; codes1 = E.shared_slice_known-2-1.given; neighbours1 = E.shared_slice_known-1.given } }) in record {
+      unrefused = first-unrefused a.limited l m a.choice.now a.list.now (sym E.pair_count.ensures ∙ E.if-pair_count.false)
           (ap₂ ◌||◌ E.other_than.ensures E.other_than-2.ensures) E.record_refusal-first.ensures
-          E.record_refusal-second.ensures E.earlier-early.ensures E.if-early-ne0.false; unrefused_2 = second-unrefused a.limited l m a.choice.now a.list.now (sym E.pair_count.ensures ∙ E.if-pair_count.false)
+          E.record_refusal-second.ensures E.earlier-early.ensures E.if-early-ne0.false;
+      unrefused_2 = second-unrefused a.limited l m a.choice.now a.list.now (sym E.pair_count.ensures ∙ E.if-pair_count.false)
+          (ap₂ ◌||◌ E.other_than.ensures E.other_than-2.ensures) E.record_refusal-first.ensures
+          E.record_refusal-second.ensures E.earlier-early.ensures E.if-early-ne0.false;
+      words1_len = (
+        part-long _ _ n-few refl,
+        part-long _ _ n-few refl,
+        part-long _ _ n-few refl,
+        part-long _ _ n-few refl,
+        choice-fits a.limited l m a.choice.now a.list.now (sym E.pair_count.ensures ∙ E.if-pair_count.false)
             (ap₂ ◌||◌ E.other_than.ensures E.other_than-2.ensures) E.record_refusal-first.ensures
-            E.record_refusal-second.ensures E.earlier-early.ensures E.if-early-ne0.false; words1_len = (
-          part-long _ _ n-few refl,
-          part-long _ _ n-few refl,
-          part-long _ _ n-few refl,
-          part-long _ _ n-few refl,
-          choice-fits a.limited l m a.choice.now a.list.now (sym E.pair_count.ensures ∙ E.if-pair_count.false)
-              (ap₂ ◌||◌ E.other_than.ensures E.other_than-2.ensures) E.record_refusal-first.ensures
-              E.record_refusal-second.ensures E.earlier-early.ensures E.if-early-ne0.false,
-          list-fits a.limited l m a.choice.now a.list.now (sym E.pair_count.ensures ∙ E.if-pair_count.false)
-              (ap₂ ◌||◌ E.other_than.ensures E.other_than-2.ensures) E.record_refusal-first.ensures
-              E.record_refusal-second.ensures E.earlier-early.ensures E.if-early-ne0.false,
-        ) }
+            E.record_refusal-second.ensures E.earlier-early.ensures E.if-early-ne0.false,
+        list-fits a.limited l m a.choice.now a.list.now (sym E.pair_count.ensures ∙ E.if-pair_count.false)
+            (ap₂ ◌||◌ E.other_than.ensures E.other_than-2.ensures) E.record_refusal-first.ensures
+            E.record_refusal-second.ensures E.earlier-early.ensures E.if-early-ne0.false,
+      );
+    }
 
 pub returns : goal.returns
 returns c =

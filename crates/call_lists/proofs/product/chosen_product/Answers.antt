@@ -26,17 +26,16 @@ row_at-row-requires c =
 pub loop-j-preserved : goal.loop-j-preserved
 loop-j-preserved c =
     let L = c.loop-j in
-    
     let a = c.args in
     let l : GeneratorList = record { n = a.n; signs = a.signs.now; z = a.z.now; x = a.x.now } in
     let test = c.has.ensures in
     let more = c.loop-j-test.true in
     elim c.if-has.branch [
-      then-has k ↦ subst (PartProduct l a.chosen (L.j + 1)) (sym k.product-is)
-    (part-on l a.chosen c.requires L.j L.product L.invariant more _ _ (sym test ∙ k.if-has.true) k.row_at-row.ensures
-    k.times-product.ensures)
-    | else-has k ↦ subst (PartProduct l a.chosen (L.j + 1)) (sym k.product-is)
-    (part_off l a.chosen c.requires L.j L.product L.invariant more (sym test ∙ k.if-has.false))
+      | then-has k ↦ subst (PartProduct l a.chosen (L.j + 1)) (sym k.product-is)
+          (part-on l a.chosen c.requires L.j L.product L.invariant more _ _ (sym test ∙ k.if-has.true) k.row_at-row.ensures
+          k.times-product.ensures)
+      | else-has k ↦ subst (PartProduct l a.chosen (L.j + 1)) (sym k.product-is)
+          (part_off l a.chosen c.requires L.j L.product L.invariant more (sym test ∙ k.if-has.false))
     ]
 
 pub returns : goal.returns

@@ -38,7 +38,6 @@ number E =
 pub returns-then-early-ne0 : goal.returns-then-early-ne0
 returns-then-early-ne0 c =
     let E = c.before in
-    
     let S = E.before.before.before.before.before in
     let a = S.args in
     refused _ (observe-early a.word a.party (lent S) a.pauli a.qubit a.bit (number E) c.if-early-ne0.true)
@@ -47,6 +46,5 @@ returns-then-early-ne0 c =
 pub observe_within-requires : goal.observe_within-requires
 observe_within-requires c =
     let E = c.before.before.before.before.before.before.before.before.before in
-    
     let S = E.before.before.before.before.before in
     let a = S.args in record { admitted = observe-admitted a.word a.party (lent S) a.pauli a.qubit a.bit (number E) c.if-early-ne0.false; words_len = (refl {a = 64}, refl {a = 64}) }

@@ -48,11 +48,15 @@ expand_into-requires c =
     let s = S.args.signs.now in
     let z = S.args.z.now in
     let x = S.args.x.now in
-    let A = accepted-held (lent S) s z x _ (others-are O) _ c.used_refusal-early.ensures c.if-early-ne0.false in record { n_bound = (A.upto, A.neighbours-length, A.codes-length); by_index = (A.codes-below, A.words-below); signs_len = (
-          signs-fit (lent S) s z x _ (others-are O) _ c.used_refusal-early.ensures c.if-early-ne0.false,
-          z-fit (lent S) s z x _ (others-are O) _ c.used_refusal-early.ensures c.if-early-ne0.false,
-          x-fit (lent S) s z x _ (others-are O) _ c.used_refusal-early.ensures c.if-early-ne0.false,
-        ) }
+    let A = accepted-held (lent S) s z x _ (others-are O) _ c.used_refusal-early.ensures c.if-early-ne0.false in record {
+      n_bound = (A.upto, A.neighbours-length, A.codes-length);
+      by_index = (A.codes-below, A.words-below);
+      signs_len = (
+        signs-fit (lent S) s z x _ (others-are O) _ c.used_refusal-early.ensures c.if-early-ne0.false,
+        z-fit (lent S) s z x _ (others-are O) _ c.used_refusal-early.ensures c.if-early-ne0.false,
+        x-fit (lent S) s z x _ (others-are O) _ c.used_refusal-early.ensures c.if-early-ne0.false,
+      );
+    }
 
 pub returns : goal.returns
 returns c =

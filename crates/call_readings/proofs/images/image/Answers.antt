@@ -27,7 +27,7 @@ returns-then-early-ne0 c =
     c.record_refusal-early.ensures c.if-early-ne0.true
 
 -- the record is accepted where nothing has refused
-accepted : (c : ElseEarlyNe0) → 
+accepted : (c : ElseEarlyNe0) →
     let a = c.args in
     AcceptedRecord (lent_record a.n a.neighbours.now a.codes.now)
 accepted c =
@@ -52,18 +52,19 @@ slice_bounds-image_in-end-2 c = sym (part-long _ _ (accepted c.before.before.bef
 
 pub image_in-told-requires : goal.image_in-told-requires
 image_in-told-requires c =
-    let A = accepted c.before.before.before.before in record { unrefused = accepted-unrefused _ _ _ A; words_len = (
+    let A = accepted c.before.before.before.before in record {
+      unrefused = accepted-unrefused _ _ _ A;
+      words_len = (
         part-long _ _ A.upto refl ∙ sym A.neighbours-length,
         part-long _ _ A.upto refl ∙ sym A.neighbours-length,
         refl,
-      ) }
+      );
+    }
 
 pub returns-then-told-ne0 : goal.returns-then-told-ne0
 returns-then-told-ne0 c =
     let H = c.before.before.before.before.before.before.before.before.before.before in
     let A = accepted H in
-    
-    
     let a = H.args in
     let l : LentRecord = lent_record a.n a.neighbours.now a.codes.now in
     let o = ap₂ ◌||◌ H.other_than.ensures
@@ -97,8 +98,6 @@ pub copy_list-requires : goal.copy_list-requires
 copy_list-requires c =
     let H = c.before.before.before.before.before.before.before.before.before.before.before.before.before.before.before.before.before.before.before in
     let A = accepted H in
-    
-    
     let a = H.args in
     let l : LentRecord = lent_record a.n a.neighbours.now a.codes.now in
     let o = ap₂ ◌||◌ H.other_than.ensures
@@ -115,8 +114,6 @@ pub returns : goal.returns
 returns c =
     let H = c.before.before.before.before.before.before.before.before.before.before.before.before.before.before.before.before.before.before.before.before.before.before in
     let A = accepted H in
-    
-    
     let a = H.args in
     let l : LentRecord = lent_record a.n a.neighbours.now a.codes.now in
     let o = ap₂ ◌||◌ H.other_than.ensures

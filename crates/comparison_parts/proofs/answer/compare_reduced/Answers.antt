@@ -13,13 +13,16 @@ use Rattle.comparison_parts.proofs.answer.compare_reduced.Goals as goal
 pub too_large-requires : goal.too_large-requires
 too_large-requires c =
     let F = c.requires.accepted_record in
-    let G = c.requires.accepted_record_2 in record { neighbours_len_bound = (
+    let G = c.requires.accepted_record_2 in record {
+      neighbours_len_bound = (
         omega (arith, F.neighbours-length, F.upto),
         subst (λ m. Simple m (graph_in c.args.neighbours.now)) (sym F.neighbours-length) F.simple,
-      ); neighbours2_len_bound = (
+      );
+      neighbours2_len_bound = (
         omega (arith, G.neighbours-length, G.upto),
         subst (λ m. Simple m (graph_in c.args.neighbours2.now)) (sym G.neighbours-length) G.simple,
-      ) }
+      );
+    }
 
 -- src/lib.rt:89:9
 pub returns-then-too_large : goal.returns-then-too_large
@@ -67,13 +70,17 @@ induced_image-answer-requires c =
     c.requires.accepted_record.neighbours-length
     c.requires.accepted_record_2.neighbours-length c.too_large.ensures c.if-too_large.false) in
     let x = c.compare_parts-least.result.choice in
-    let e = choice-written a.n x a.choice.now _ c.requires.choice_len.0 c.copy_bytes.ensures in record { accepted_record = c.requires.accepted_record; choice_len = (choice-long a.n x _ e, c.requires.accepted_record_2.codes-length, part-long _ _ c.requires.accepted_record.upto refl); codes = (
-          chosen-codes a.limited a.n a.neighbours.now a.codes.now a.neighbours2.now a.codes2.now
-              c.requires.accepted_record c.requires.accepted_record_2 small
-              c.compare_parts-least.result.found c.compare_parts-least.result.choice c.compare_parts-least.ensures
-              (not-false _ c.if-not-least.false) _ e,
-          c.requires.accepted_record_2.codes-below,
-        ) }
+    let e = choice-written a.n x a.choice.now _ c.requires.choice_len.0 c.copy_bytes.ensures in record {
+      accepted_record = c.requires.accepted_record;
+      choice_len = (choice-long a.n x _ e, c.requires.accepted_record_2.codes-length, part-long _ _ c.requires.accepted_record.upto refl);
+      codes = (
+        chosen-codes a.limited a.n a.neighbours.now a.codes.now a.neighbours2.now a.codes2.now
+            c.requires.accepted_record c.requires.accepted_record_2 small
+            c.compare_parts-least.result.found c.compare_parts-least.result.choice c.compare_parts-least.ensures
+            (not-false _ c.if-not-least.false) _ e,
+        c.requires.accepted_record_2.codes-below,
+      );
+    }
 
 -- src/lib.rt:100:5
 pub copy_list-requires : goal.copy_list-requires

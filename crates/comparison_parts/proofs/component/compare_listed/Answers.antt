@@ -11,21 +11,27 @@ use Rattle.comparison_parts.proofs.component.compare_listed.Goals as goal
 pub extract-requires : goal.extract-requires
 extract-requires c =
     let G = c.requires.numbered_pair in
-    let F = G.pair.first in record { words_len_bound = (G.few, c.requires.numbers_len.0); neighbours_len_bound = (
+    let F = G.pair.first in record {
+      words_len_bound = (G.few, c.requires.numbers_len.0);
+      neighbours_len_bound = (
         omega (arith, F.neighbours-long, G.pair.upto),
         F.codes-long ∙ sym F.neighbours-long,
         λ i l. omega (arith, F.neighbours-long, G.numbers.below i l),
-      ) }
+      );
+    }
 
 -- src/lib.rt:48:5
 pub extract-requires-2 : goal.extract-requires-2
 extract-requires-2 c =
     let G = c.requires.numbered_pair in
-    let F = G.pair.second in record { words_len_bound = (omega (arith, G.few, c.requires.numbers_len.1), c.requires.numbers_len.2 ∙ sym c.requires.numbers_len.1); neighbours_len_bound = (
+    let F = G.pair.second in record {
+      words_len_bound = (omega (arith, G.few, c.requires.numbers_len.1), c.requires.numbers_len.2 ∙ sym c.requires.numbers_len.1);
+      neighbours_len_bound = (
         omega (arith, F.neighbours-long, G.pair.upto),
         F.codes-long ∙ sym F.neighbours-long,
         λ i l. omega (arith, F.neighbours-long, G.numbers.below i (omega (arith, l, c.requires.numbers_len.1))),
-      ) }
+      );
+    }
 
 -- src/lib.rt:49:5
 pub search_records-requires : goal.search_records-requires
@@ -34,16 +40,20 @@ search_records-requires c =
     let G = c.requires.numbered_pair in
     let k = length a.words.now in
     let ew = c.extract-2.ensures.0 ∙ ap (λ m. part_words m a.at a.neighbours2.now) c.requires.numbers_len.1 in
-    let en = c.extract-2.ensures.1 ∙ ap (λ m. part_codes m a.at a.codes2.now) c.requires.numbers_len.1 in record { n_bound = (
+    let en = c.extract-2.ensures.1 ∙ ap (λ m. part_codes m a.at a.codes2.now) c.requires.numbers_len.1 in record {
+      n_bound = (
         G.few,
         first-sound a.n a.neighbours.now a.codes.now a.neighbours2.now a.codes2.now
             a.component k a.at G _ _ _ _ c.extract.ensures.0 c.extract.ensures.1 ew en,
-      ); sound_record = (
-          second-sound a.n a.neighbours.now a.codes.now a.neighbours2.now a.codes2.now a.component
-              k a.at G _ _ _ _ c.extract.ensures.0 c.extract.ensures.1 ew en,
-          first-connected a.n a.neighbours.now a.codes.now a.neighbours2.now a.codes2.now
-              a.component k a.at G _ _ _ _ c.extract.ensures.0 c.extract.ensures.1 ew en,
-        ); empty_from = c.requires.empty_from }
+      );
+      sound_record = (
+        second-sound a.n a.neighbours.now a.codes.now a.neighbours2.now a.codes2.now a.component
+            k a.at G _ _ _ _ c.extract.ensures.0 c.extract.ensures.1 ew en,
+        first-connected a.n a.neighbours.now a.codes.now a.neighbours2.now a.codes2.now
+            a.component k a.at G _ _ _ _ c.extract.ensures.0 c.extract.ensures.1 ew en,
+      );
+      empty_from = c.requires.empty_from;
+    }
 
 -- src/lib.rt:27:1
 -- src/lib.rt:27:1
@@ -56,6 +66,9 @@ returns c =
     let G = c.requires.numbered_pair in
     let k = length a.words.now in
     let ew = c.extract-2.ensures.0 ∙ ap (λ m. part_words m a.at a.neighbours2.now) c.requires.numbers_len.1 in
-    let en = c.extract-2.ensures.1 ∙ ap (λ m. part_codes m a.at a.codes2.now) c.requires.numbers_len.1 in record { part_answer = part-answered a.n a.neighbours.now a.codes.now a.neighbours2.now a.codes2.now a.component k
+    let en = c.extract-2.ensures.1 ∙ ap (λ m. part_codes m a.at a.codes2.now) c.requires.numbers_len.1 in record {
+      part_answer = part-answered a.n a.neighbours.now a.codes.now a.neighbours2.now a.codes2.now a.component k
           a.at G _ _ _ _ c.extract.ensures.0 c.extract.ensures.1 ew en
-          _ _ c.search_records.ensures.least_answer; empty_from_2 = c.search_records.ensures.empty_from_2 }
+          _ _ c.search_records.ensures.least_answer;
+      empty_from_2 = c.search_records.ensures.empty_from_2;
+    }

@@ -22,12 +22,11 @@ loop-i-smaller c = omega arith
 
 -- src/lib.rt:61:5
 pub loop-i-preserved : goal.loop-i-preserved
-loop-i-preserved c =
-    (
-      omega arith,
-      placing-step c.args.at c.args.chosen c.args.choice c.loop-i.whole c.args.k
-          c.loop-i.i c.requires.2 c.requires.1 c.loop-i-test.true c.loop-i.invariant.1,
-    )
+loop-i-preserved c = (
+  omega arith,
+  placing-step c.args.at c.args.chosen c.args.choice c.loop-i.whole c.args.k
+      c.loop-i.i c.requires.2 c.requires.1 c.loop-i-test.true c.loop-i.invariant.1,
+)
 
 -- src/lib.rt:53:1
 pub returns : goal.returns

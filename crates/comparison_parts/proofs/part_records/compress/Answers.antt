@@ -19,12 +19,11 @@ has-requires c = c.requires.1 c.loop-i.i c.loop-i-test.true
 -- src/lib.rt:44:5
 -- src/lib.rt:44:5
 pub loop-i-preserved : goal.loop-i-preserved
-loop-i-preserved c =
-    (
-      omega arith,
-      compressed-more c.args.at c.args.w c.loop-i.bits c.loop-i.i _ _
-          c.loop-i.invariant.1 c.has.ensures c.flip_where-bits.ensures,
-    )
+loop-i-preserved c = (
+  omega arith,
+  compressed-more c.args.at c.args.w c.loop-i.bits c.loop-i.i _ _
+      c.loop-i.invariant.1 c.has.ensures c.flip_where-bits.ensures,
+)
 
 -- src/lib.rt:38:1
 pub returns : goal.returns

@@ -53,12 +53,11 @@ loop-i-smaller c =
 
 -- src/lib.rt:68:5
 pub loop-i-preserved : goal.loop-i-preserved
-loop-i-preserved c =
-    (
-      fill_step _ _ c.loop-i.words c.loop-i.i _ c.loop-i.invariant.0 c.loop-i-test.true
-          c.compress.ensures,
-      fill_step _ _ c.loop-i.numbers c.loop-i.i _ c.loop-i.invariant.1 c.loop-i-test.true refl,
-    )
+loop-i-preserved c = (
+  fill_step _ _ c.loop-i.words c.loop-i.i _ c.loop-i.invariant.0 c.loop-i-test.true
+      c.compress.ensures,
+  fill_step _ _ c.loop-i.numbers c.loop-i.i _ c.loop-i.invariant.1 c.loop-i-test.true refl,
+)
 
 -- src/lib.rt:53:1
 pub shape_of-words : goal.shape_of-words
@@ -71,8 +70,7 @@ shape_of-numbers c =
 
 -- src/lib.rt:53:1
 pub returns : goal.returns
-returns c =
-    (
-      fill_end _ _ c.loop-i.words c.loop-i.i c.loop-i.invariant.0 c.loop-i-test.false,
-      fill_end _ _ c.loop-i.numbers c.loop-i.i c.loop-i.invariant.1 c.loop-i-test.false,
-    )
+returns c = (
+  fill_end _ _ c.loop-i.words c.loop-i.i c.loop-i.invariant.0 c.loop-i-test.false,
+  fill_end _ _ c.loop-i.numbers c.loop-i.i c.loop-i.invariant.1 c.loop-i-test.false,
+)

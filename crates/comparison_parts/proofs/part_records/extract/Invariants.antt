@@ -8,7 +8,7 @@ use Rattle.comparison_parts.proofs.part_records.extract.Given as goal
 abbrev pub invariant-loop-i : goal.invariant-loop-i
 invariant-loop-i l =
     Filled (length l.initial.words) (λ i. renumbered (length l.initial.words) l.at (get_or l.neighbours (get_or l.at i 0) 0)) l.words
-        l.i
+    l.i
     × Filled (length l.initial.words) (λ i. get_or l.codes (get_or l.at i 0) 0) l.numbers l.i
 
 abbrev pub decreases-loop-i : goal.decreases-loop-i

@@ -28,11 +28,11 @@ loop-q-preserved c =
     let n = length nb in
     let more = c.loop-q-test.true in
     elim c.if-not-has.branch [
-      then-not-has+else-count-gt20 w ↦ seen_more n (graph_in nb) c.loop-q.seen c.loop-q.q c.loop-q.invariant more c.requires.simple w.part-component.result
-    w.count.result _ w.part-component.ensures w.count.ensures.0 (le-ltb 20 _ w.if-count-gt20.false) w.seen-is
-    | else-not-has w ↦ subst (λ s. Seen n (graph_in nb) s (c.loop-q.q + 1)) (sym w.seen-is)
-    (seen-again n (graph_in nb) c.loop-q.seen c.loop-q.q c.loop-q.invariant more
-    (sym c.has.ensures ∙ w.if-not-has.false))
+      | then-not-has+else-count-gt20 w ↦ seen_more n (graph_in nb) c.loop-q.seen c.loop-q.q c.loop-q.invariant more c.requires.simple w.part-component.result
+          w.count.result _ w.part-component.ensures w.count.ensures.0 (le-ltb 20 _ w.if-count-gt20.false) w.seen-is
+      | else-not-has w ↦ subst (λ s. Seen n (graph_in nb) s (c.loop-q.q + 1)) (sym w.seen-is)
+          (seen-again n (graph_in nb) c.loop-q.seen c.loop-q.q c.loop-q.invariant more
+          (sym c.has.ensures ∙ w.if-not-has.false))
     ]
 
 pub returns : goal.returns

@@ -22,11 +22,11 @@ loop-i-preserved c =
     let seen = sym c.has.ensures in (
       omega arith,
       elim c.if-has.branch [
-      then-has w ↦ passed-joined a.neighbours.now a.marked c.loop-i.reached c.loop-i.i _ c.loop-i.invariant.1
-          (seen ∙ w.if-has.true) w.reached-is
-    | else-has w ↦ passed-kept a.neighbours.now a.marked c.loop-i.reached c.loop-i.i _ c.loop-i.invariant.1
-          (seen ∙ w.if-has.false) w.reached-is
-    ],
+        | then-has w ↦ passed-joined a.neighbours.now a.marked c.loop-i.reached c.loop-i.i _ c.loop-i.invariant.1
+            (seen ∙ w.if-has.true) w.reached-is
+        | else-has w ↦ passed-kept a.neighbours.now a.marked c.loop-i.reached c.loop-i.i _ c.loop-i.invariant.1
+            (seen ∙ w.if-has.false) w.reached-is
+      ],
     )
 
 -- src/lib.rt:15:1

@@ -20,7 +20,6 @@ loop-j-init c = none-multiplied _ _ _ _ (Pauli-path refl zero_bit zero_bit)
 pub times-h-requires : goal.times-h-requires
 times-h-requires c =
     let l = c.loop-j in
-    
     let proper = framed-proper c.args.n (generators_of (generators_in c.args.second.now)) c.requires.1.0
     c.requires.1.1 in
     subst (λ g. anticommute 64 (generator_of l.h) (generator_of g) ≡ false) (sym c.generator_at-g.ensures)
@@ -38,12 +37,12 @@ loop-j-preserved c =
     let proper = framed-proper a.n rows c.requires.1.0 c.requires.1.1 in
     let more = c.loop-j-test.true in
     elim c.if-has.branch [
-      then-has k ↦ subst (λ h. Multiplied a.n rows w (l.j + 1) (generator_of h)) (sym k.h-is)
-    (multiplied-on a.n (omega arith) rows proper.within w l.j (generator_of l.h) l.invariant more _
-    (sym test ∙ k.if-has.true) (k.times-h.ensures ∙ ap (λ g. mul 64 (generator_of l.h) (generator_of g)) k.generator_at-g.ensures))
-    | else-has k ↦ subst (λ h. Multiplied a.n rows w (l.j + 1) (generator_of h)) (sym k.h-is)
-    (multiplied-off a.n (omega arith) rows proper.within w l.j (generator_of l.h) l.invariant more
-    (sym test ∙ k.if-has.false))
+      | then-has k ↦ subst (λ h. Multiplied a.n rows w (l.j + 1) (generator_of h)) (sym k.h-is)
+          (multiplied-on a.n (omega arith) rows proper.within w l.j (generator_of l.h) l.invariant more _
+          (sym test ∙ k.if-has.true) (k.times-h.ensures ∙ ap (λ g. mul 64 (generator_of l.h) (generator_of g)) k.generator_at-g.ensures))
+      | else-has k ↦ subst (λ h. Multiplied a.n rows w (l.j + 1) (generator_of h)) (sym k.h-is)
+          (multiplied-off a.n (omega arith) rows proper.within w l.j (generator_of l.h) l.invariant more
+          (sym test ∙ k.if-has.false))
     ]
 
 pub returns : goal.returns

@@ -12,13 +12,12 @@ use Rattle.comparison_search.proofs.equations.clear.Goals as goal
 use Rattle.comparison_search.proofs.equations.clear.Goals.{else-has_unknown, then-has_unknown}
 
 pub loop-k-init : goal.loop-k-init
-loop-k-init c =
-    (
-      c.requires.1,
-      c.requires.2,
-      clear-start (equations_in c.args.table.now) c.requires.0 c.args.i _
-          (sym (row_at c.args.table.now c.args.i)),
-    )
+loop-k-init c = (
+  c.requires.1,
+  c.requires.2,
+  clear-start (equations_in c.args.table.now) c.requires.0 c.args.i _
+      (sym (row_at c.args.table.now c.args.i)),
+)
 
 pub bounds-table-k : goal.bounds-table-k
 bounds-table-k c = omega (arith, c.loop-k.invariant.1, c.loop-k-test.true)
@@ -54,14 +53,14 @@ loop-k-preserved c =
       l.invariant.0,
       l.invariant.1,
       elim c.if-has_unknown.branch [
-      then-has_unknown w ↦ subst (λ t. Clearing first t a.i (l.k + 1) p)
-          (sym (ap equations_in w.table-is ∙ row-set l.table l.k w.add.result))
-          (clear-added first (equations_in l.table) a.i l.k p l.invariant.2 (omega (arith, more, l.invariant.1)) e
-          (equation_of w.add.result) (sym (row_at l.table l.k))
-          (sym c.has_unknown.ensures ∙ w.if-has_unknown.true) w.add.ensures)
-    | else-has_unknown w ↦ subst (λ t. Clearing first (equations_in t) a.i (l.k + 1) p) (sym w.table-is)
-          (clear_kept first (equations_in l.table) a.i l.k p l.invariant.2)
-    ],
+        | then-has_unknown w ↦ subst (λ t. Clearing first t a.i (l.k + 1) p)
+            (sym (ap equations_in w.table-is ∙ row-set l.table l.k w.add.result))
+            (clear-added first (equations_in l.table) a.i l.k p l.invariant.2 (omega (arith, more, l.invariant.1)) e
+            (equation_of w.add.result) (sym (row_at l.table l.k))
+            (sym c.has_unknown.ensures ∙ w.if-has_unknown.true) w.add.ensures)
+        | else-has_unknown w ↦ subst (λ t. Clearing first (equations_in t) a.i (l.k + 1) p) (sym w.table-is)
+            (clear_kept first (equations_in l.table) a.i l.k p l.invariant.2)
+      ],
     )
 
 pub returns : goal.returns

@@ -17,10 +17,10 @@ induced_code-requires c =
 pub loop-q-smaller : goal.loop-q-smaller
 loop-q-smaller c =
     omega (
-  arith,
-  c.loop-q.invariant.long,
-  c.loop-q-test.true,
-)
+      arith,
+      c.loop-q.invariant.long,
+      c.loop-q-test.true,
+    )
 
 pub loop-q-preserved : goal.loop-q-preserved
 loop-q-preserved c =

@@ -21,8 +21,6 @@ loop-j-init c =
 pub loop-j-preserved : goal.loop-j-preserved
 loop-j-preserved c =
     let l = c.loop-j in
-    
-    
     let a = c.args in
     let more = c.loop-j-test.true in
     generator-stored 64 _ l.rows l.j c.row_of.result c.act_on-sent.result l.invariant

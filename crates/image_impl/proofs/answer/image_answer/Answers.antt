@@ -13,11 +13,14 @@ slice_bounds-image_in-end-2 c = sym (part-long _ _ c.requires.upto refl)
 
 pub image_in-told-requires : goal.image_in-told-requires
 image_in-told-requires c =
-    let A = c.requires in record { unrefused = accepted-unrefused _ _ _ A; words_len = (
+    let A = c.requires in record {
+      unrefused = accepted-unrefused _ _ _ A;
+      words_len = (
         part-long _ _ A.upto refl ∙ sym A.neighbours-length,
         part-long _ _ A.upto refl ∙ sym A.neighbours-length,
         refl,
-      ) }
+      );
+    }
 
 pub returns : goal.returns
 returns c =

@@ -23,12 +23,11 @@ begin-requires c =
     unrefused-codes _ _ (copied-unrefused c.copy_record.ensures c.requires.unrefused)
 
 pub run_rule-end-requires : goal.run_rule-end-requires
-run_rule-end-requires c =
-    (
-      c.begin.ensures.count_value,
-      c.begin.ensures.by_index _ _ (copied-unrefused c.copy_record.ensures c.requires.unrefused)
-          c.requires.words_len.2,
-    )
+run_rule-end-requires c = (
+  c.begin.ensures.count_value,
+  c.begin.ensures.by_index _ _ (copied-unrefused c.copy_record.ensures c.requires.unrefused)
+      c.requires.words_len.2,
+)
 
 pub action_of-left-requires : goal.action_of-left-requires
 action_of-left-requires c =

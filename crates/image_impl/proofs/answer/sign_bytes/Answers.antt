@@ -13,14 +13,13 @@ bounds-signs-j c =
     omega (arith, c.loop-j.invariant.1.long, c.requires.1, c.loop-j-test.true)
 
 pub loop-j-preserved : goal.loop-j-preserved
-loop-j-preserved c =
-    (
-      omega (arith, c.loop-j-test.true),
-      mapped-store (SignAt c.args.graph.now c.args.sx c.args.sz) c.args.signs.now c.loop-j.signs
-          c.loop-j.j c.sign_byte.result c.loop-j.invariant.1
-          (omega (arith, c.requires.1, c.loop-j-test.true))
-          c.sign_byte.ensures,
-    )
+loop-j-preserved c = (
+  omega (arith, c.loop-j-test.true),
+  mapped-store (SignAt c.args.graph.now c.args.sx c.args.sz) c.args.signs.now c.loop-j.signs
+      c.loop-j.j c.sign_byte.result c.loop-j.invariant.1
+      (omega (arith, c.requires.1, c.loop-j-test.true))
+      c.sign_byte.ensures,
+)
 
 pub shape_of-signs : goal.shape_of-signs
 shape_of-signs c = c.loop-j.invariant.1.long

@@ -15,16 +15,16 @@ pub returns-then-b-eq109 : goal.returns-then-b-eq109
 unfolding first_op
 returns-then-b-eq109 c =
     simp (
-  ne_eqb _ _ c.if-b-eq103.false,
-  ne_eqb _ _ c.if-b-eq99.false,
-  eq-eqb _ _ c.if-b-eq109.true,
-)
+      ne_eqb _ _ c.if-b-eq103.false,
+      ne_eqb _ _ c.if-b-eq99.false,
+      eq-eqb _ _ c.if-b-eq109.true,
+    )
 
 pub returns : goal.returns
 unfolding first_op
 returns c =
     simp (
-  ne_eqb _ _ c.if-b-eq103.false,
-  ne_eqb _ _ c.if-b-eq99.false,
-  ne_eqb _ _ c.if-b-eq109.false,
-)
+      ne_eqb _ _ c.if-b-eq103.false,
+      ne_eqb _ _ c.if-b-eq99.false,
+      ne_eqb _ _ c.if-b-eq109.false,
+    )

@@ -15,27 +15,27 @@ pub returns-then-k-eq6 : goal.returns-then-k-eq6
 unfolding head_step
 returns-then-k-eq6 c =
     simp (
-  lt-ltb _ _ c.if-k-ge20.false,
-  eq-eqb _ _ c.if-b-k.false,
-  eq-eqb _ _ c.if-k-eq6.true,
-)
+      lt-ltb _ _ c.if-k-ge20.false,
+      eq-eqb _ _ c.if-b-k.false,
+      eq-eqb _ _ c.if-k-eq6.true,
+    )
 
 pub returns-then-k-eq19 : goal.returns-then-k-eq19
 unfolding head_step
 returns-then-k-eq19 c =
     simp (
-  lt-ltb _ _ c.if-k-ge20.false,
-  eq-eqb _ _ c.if-b-k.false,
-  ne_eqb _ _ c.if-k-eq6.false,
-  eq-eqb _ _ c.if-k-eq19.true,
-)
+      lt-ltb _ _ c.if-k-ge20.false,
+      eq-eqb _ _ c.if-b-k.false,
+      ne_eqb _ _ c.if-k-eq6.false,
+      eq-eqb _ _ c.if-k-eq19.true,
+    )
 
 pub returns : goal.returns
 unfolding head_step
 returns c =
     simp (
-  lt-ltb _ _ c.if-k-ge20.false,
-  eq-eqb _ _ c.if-b-k.false,
-  ne_eqb _ _ c.if-k-eq6.false,
-  ne_eqb _ _ c.if-k-eq19.false,
-)
+      lt-ltb _ _ c.if-k-ge20.false,
+      eq-eqb _ _ c.if-b-k.false,
+      ne_eqb _ _ c.if-k-eq6.false,
+      ne_eqb _ _ c.if-k-eq19.false,
+    )

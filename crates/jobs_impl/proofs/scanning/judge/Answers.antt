@@ -12,27 +12,27 @@ pub returns-then-s-gt4096 : goal.returns-then-s-gt4096
 unfolding verdict first_fitting
 returns-then-s-gt4096 c =
     simp (
-  ← c.at_line.ensures,
-  c.if-not-at_line.false-raw,
-  lt-ltb _ _ c.if-s-gt4096.true,
-)
+      ← c.at_line.ensures,
+      c.if-not-at_line.false-raw,
+      lt-ltb _ _ c.if-s-gt4096.true,
+    )
 
 pub returns-then-n : goal.returns-then-n
 unfolding verdict first_fitting
 returns-then-n c =
     simp (
-  ← c.at_line.ensures,
-  c.if-not-at_line.false-raw,
-  le-ltb _ _ c.if-s-gt4096.false,
-  c.if-n.true,
-)
+      ← c.at_line.ensures,
+      c.if-not-at_line.false-raw,
+      le-ltb _ _ c.if-s-gt4096.false,
+      c.if-n.true,
+    )
 
 pub returns : goal.returns
 unfolding verdict first_fitting
 returns c =
     simp (
-  ← c.at_line.ensures,
-  c.if-not-at_line.false-raw,
-  le-ltb _ _ c.if-s-gt4096.false,
-  c.if-n.false,
-)
+      ← c.at_line.ensures,
+      c.if-not-at_line.false-raw,
+      le-ltb _ _ c.if-s-gt4096.false,
+      c.if-n.false,
+    )

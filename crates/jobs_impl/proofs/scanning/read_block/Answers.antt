@@ -51,11 +51,11 @@ loop-i-preserved c =
       search rules,
       fed-more feed _ sofar _ l.i c.loop-i-test.true l.invariant.1 (as_reading next c.if-row-count.steps)
           (elim c.if-row-count.branch [
-      then-row-count w ↦ ap (as_reading next) w.steps-is
-          ∙ ap (λ step. as_reading next (set l.steps l.scan.count step)) w.step_of-step.ensures
-          ∙ feed-stored sofar _ next c.scan_byte-next.ensures w.if-row-count.true
-    | else-row-count w ↦ ap (as_reading next) w.steps-is ∙ feed-kept sofar _ next c.scan_byte-next.ensures w.if-row-count.false
-    ]),
+            | then-row-count w ↦ ap (as_reading next) w.steps-is
+                ∙ ap (λ step. as_reading next (set l.steps l.scan.count step)) w.step_of-step.ensures
+                ∙ feed-stored sofar _ next c.scan_byte-next.ensures w.if-row-count.true
+            | else-row-count w ↦ ap (as_reading next) w.steps-is ∙ feed-kept sofar _ next c.scan_byte-next.ensures w.if-row-count.false
+          ]),
     )
 
 pub returns : goal.returns

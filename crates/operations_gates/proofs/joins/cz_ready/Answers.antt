@@ -32,22 +32,24 @@ reach_minus-requires-2 c =
     (unrefused-codes _ _ c.requires.unrefused).1 _
 
 pub join_sets-requires : goal.join_sets-requires
-join_sets-requires c =
-    (
-      unrefused-short _ _ c.requires.unrefused,
-      reach-fits _ _ c.requires.unrefused _ c.requires.a_in_bounds.0 _ c.reach_word-to_a.ensures,
-      reach-fits _ _ c.requires.unrefused _ c.requires.a_in_bounds.1 _ c.reach_word-to_b.ensures,
-    )
+join_sets-requires c = (
+  unrefused-short _ _ c.requires.unrefused,
+  reach-fits _ _ c.requires.unrefused _ c.requires.a_in_bounds.0 _ c.reach_word-to_a.ensures,
+  reach-fits _ _ c.requires.unrefused _ c.requires.a_in_bounds.1 _ c.reach_word-to_b.ensures,
+)
 
 pub put_before-requires : goal.put_before-requires
 put_before-requires c =
-    record { codes_len_bound = unrefused-codes _ _ c.requires.unrefused; word_bound = (
+    record {
+      codes_len_bound = unrefused-codes _ _ c.requires.unrefused;
+      word_bound = (
         turned-fits _ _ c.requires.unrefused _ _ c.requires.a_in_bounds.0 c.requires.a_in_bounds.1 c.requires.a_in_bounds.2 c.requires.ready _
             (turned-by-calls (held_record (record_in c.args.neighbours.now c.args.codes.now))
             c.args.a c.args.b _ _ _ c.reach_word-to_a.ensures c.reach_word-to_b.ensures
             c.reach_minus.ensures c.reach_minus-2.ensures c.turned_word-turned.ensures),
         lit< tt,
-      ) }
+      );
+    }
 
 pub returns : goal.returns
 returns c =

@@ -63,20 +63,29 @@ single-own-requires-else-code-ge12 c =
 
 pub returns-then-code-word : goal.returns-then-code-word
 returns-then-code-word c =
-    let top = c.largest-k.ensures in record { nearer = pivot-nearer _ _ c.requires.unrefused.0 _ _ _ _ c.requires.unrefused.1
+    let top = c.largest-k.ensures in record {
+      nearer = pivot-nearer _ _ c.requires.unrefused.0 _ _ _ _ c.requires.unrefused.1
           (larger-below _ _ c.requires.unrefused.0 _ c.requires.unrefused.1 c.requires.j_value c.if-code-word.true _ top.0 top.1)
           c.pivot_record.ensures
-          (pivot-less _ _ c.requires.unrefused.0 _ c.requires.unrefused.1 c.requires.j_value c.if-code-word.true _ top.0 top.1); elsewhere = pivot-touches _ _ c.requires.unrefused.0 _ _ _ _ top.0 _ _ c.single.ensures c.single-then-code-word.ensures
-          c.pivot_record.ensures }
+          (pivot-less _ _ c.requires.unrefused.0 _ c.requires.unrefused.1 c.requires.j_value c.if-code-word.true _ top.0 top.1);
+      elsewhere = pivot-touches _ _ c.requires.unrefused.0 _ _ _ _ top.0 _ _ c.single.ensures c.single-then-code-word.ensures
+          c.pivot_record.ensures;
+    }
 
 pub returns-then-code-ge12 : goal.returns-then-code-ge12
 returns-then-code-ge12 c =
-    record { nearer = complement-nearer _ _ c.requires.unrefused.0 _ _ _ c.requires.unrefused.1 c.complement_record.ensures
+    record {
+      nearer = complement-nearer _ _ c.requires.unrefused.0 _ _ _ c.requires.unrefused.1 c.complement_record.ensures
           (complement-less _ _ c.requires.unrefused.0 _ c.requires.unrefused.1 c.requires.j_value c.if-code-word.false
-          c.if-code-ge12.true); elsewhere = complement-touches _ _ c.requires.unrefused.0 _ _ _ c.requires.unrefused.1 _ c.single-own.ensures
-          c.complement_record.ensures }
+          c.if-code-ge12.true);
+      elsewhere = complement-touches _ _ c.requires.unrefused.0 _ _ _ c.requires.unrefused.1 _ c.single-own.ensures
+          c.complement_record.ensures;
+    }
 
 pub returns-else-code-ge12 : goal.returns-else-code-ge12
 returns-else-code-ge12 c =
-    record { nearer = sign-nearer _ _ c.requires.unrefused.0 _ c.requires.unrefused.1 _ c.move_sign.ensures
-          (sign-less _ _ c.requires.unrefused.0 _ c.requires.unrefused.1 c.requires.j_value c.if-code-word.false c.if-code-ge12.false); elsewhere = sign-touches _ _ c.requires.unrefused.0 _ _ _ c.requires.unrefused.1 _ c.single-own-else-code-ge12.ensures c.move_sign.ensures }
+    record {
+      nearer = sign-nearer _ _ c.requires.unrefused.0 _ c.requires.unrefused.1 _ c.move_sign.ensures
+          (sign-less _ _ c.requires.unrefused.0 _ c.requires.unrefused.1 c.requires.j_value c.if-code-word.false c.if-code-ge12.false);
+      elsewhere = sign-touches _ _ c.requires.unrefused.0 _ _ _ c.requires.unrefused.1 _ c.single-own-else-code-ge12.ensures c.move_sign.ensures;
+    }

@@ -36,8 +36,11 @@ returns-then-not-is_unsettled c =
 
 pub settle_at-touched-requires : goal.settle_at-touched-requires
 settle_at-touched-requires c =
-    let below = next-below _ _ c.requires.unrefused _ c.requires.watched.0 c.requires.watched.1 _ c.smallest-j.ensures.0 in record { unrefused = (c.requires.unrefused, below); j_value = next-first _ _ c.requires.unrefused _ c.requires.watched.0 c.requires.watched.1 _ c.smallest-j.ensures.0
-          (sym c.is_unsettled.ensures ∙ not-false _ c.if-not-is_unsettled.false-raw) }
+    let below = next-below _ _ c.requires.unrefused _ c.requires.watched.0 c.requires.watched.1 _ c.smallest-j.ensures.0 in record {
+      unrefused = (c.requires.unrefused, below);
+      j_value = next-first _ _ c.requires.unrefused _ c.requires.watched.0 c.requires.watched.1 _ c.smallest-j.ensures.0
+          (sym c.is_unsettled.ensures ∙ not-false _ c.if-not-is_unsettled.false-raw);
+    }
 
 pub returns : goal.returns
 returns c =

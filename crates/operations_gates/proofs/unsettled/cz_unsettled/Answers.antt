@@ -8,11 +8,15 @@ make_ready-requires c = search rules
 
 pub cz_ready-requires : goal.cz_ready-requires
 cz_ready-requires c =
-    record { unrefused = c.make_ready.ensures.group_kept.unrefused; ready = c.make_ready.ensures.ready; a_in_bounds = (
-          kept-place _ _ _ _ c.make_ready.ensures.group_kept _ c.requires.a_in_bounds.0,
-          kept-place _ _ _ _ c.make_ready.ensures.group_kept _ c.requires.a_in_bounds.1,
-          c.requires.a_in_bounds.2,
-        ) }
+    record {
+      unrefused = c.make_ready.ensures.group_kept.unrefused;
+      ready = c.make_ready.ensures.ready;
+      a_in_bounds = (
+        kept-place _ _ _ _ c.make_ready.ensures.group_kept _ c.requires.a_in_bounds.0,
+        kept-place _ _ _ _ c.make_ready.ensures.group_kept _ c.requires.a_in_bounds.1,
+        c.requires.a_in_bounds.2,
+      );
+    }
 
 pub shape_of-neighbours : goal.shape_of-neighbours
 shape_of-neighbours c = search rules

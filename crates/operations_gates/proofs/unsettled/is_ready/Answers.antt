@@ -38,7 +38,6 @@ c_bit-requires c =
 pub returns-then-not-c_bit : goal.returns-then-not-c_bit
 returns-then-not-c_bit c =
     λ e.
-    
     ready-first _ _ c.requires.unrefused c.args.a c.args.b
     (sym c.is_crossed.ensures ∙
     c.if-is_crossed.false)
@@ -53,7 +52,6 @@ c_bit-requires-2 c =
 pub returns-then-not-c_bit-2 : goal.returns-then-not-c_bit-2
 returns-then-not-c_bit-2 c =
     λ e.
-    
     ready-second _ _ c.requires.unrefused c.args.a c.args.b
     (sym c.is_crossed.ensures ∙
     c.if-is_crossed.false)
@@ -73,7 +71,6 @@ has-requires c =
 pub returns : goal.returns
 returns c =
     λ e.
-    
     ready-parted _ _ c.requires.unrefused c.args.a c.args.b
     (sym c.is_crossed.ensures ∙
     c.if-is_crossed.false)

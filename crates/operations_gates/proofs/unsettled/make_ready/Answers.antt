@@ -14,8 +14,11 @@ shape_of-codes-then-is_ready c = search rules
 
 pub returns-then-is_ready : goal.returns-then-is_ready
 returns-then-is_ready c =
-    record { group_kept = kept_refl _ _ c.requires.unrefused; ready = c.is_ready.ensures
-      c.if-is_ready.true }
+    record {
+      group_kept = kept_refl _ _ c.requires.unrefused;
+      ready = c.is_ready.ensures
+          c.if-is_ready.true;
+    }
 
 pub uncross_both-requires : goal.uncross_both-requires
 uncross_both-requires c = search rules
@@ -31,5 +34,8 @@ shape_of-codes c = search rules
 
 pub returns : goal.returns
 returns c =
-    record { group_kept = kept_trans _ _ _ _ _ _
-          c.uncross_both.ensures c.part_both.ensures.group_kept; ready = c.part_both.ensures.ready }
+    record {
+      group_kept = kept_trans _ _ _ _ _ _
+          c.uncross_both.ensures c.part_both.ensures.group_kept;
+      ready = c.part_both.ensures.ready;
+    }

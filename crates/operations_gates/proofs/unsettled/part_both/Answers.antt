@@ -15,8 +15,11 @@ shape_of-codes-then-is_ready c = search rules
 
 pub returns-then-is_ready : goal.returns-then-is_ready
 returns-then-is_ready c =
-    record { group_kept = kept_refl _ _ c.requires.unrefused; ready = c.is_ready.ensures
-      c.if-is_ready.true }
+    record {
+      group_kept = kept_refl _ _ c.requires.unrefused;
+      ready = c.is_ready.ensures
+          c.if-is_ready.true;
+    }
 
 pub part-requires : goal.part-requires
 part-requires c = search rules

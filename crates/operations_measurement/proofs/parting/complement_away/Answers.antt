@@ -104,11 +104,7 @@ loop-rest-smaller c =
 pub loop-rest-preserved : goal.loop-rest-preserved
 loop-rest-preserved c =
     let at-smallest = c.before.before.before.before in
-    
     let inv = at-smallest.loop-rest.invariant in
-    
-    
-    
     let U = at-smallest.requires.0 in
     let dropped = dropped-at _ _ _ c.without_smallest-rest.ensures at-smallest.smallest-i.ensures.0 in (
       turning-more _ at-smallest.args.q (unrefused-simple _ _ U) _ _ inv.0 (unrefused-short _ _ U)
@@ -128,5 +124,8 @@ shape_of-neighbours c =
 
 pub returns : goal.returns
 returns c =
-    let inv = c.loop-rest.invariant in record { same_graph = turning-end _ c.args.q (unrefused-simple _ _ c.requires.0) _ _ inv.0 c.loop-rest-test.false
-          c.requires.1; codes_after = put-end _ _ 6 _ _ inv.1 c.loop-rest-test.false }
+    let inv = c.loop-rest.invariant in record {
+      same_graph = turning-end _ c.args.q (unrefused-simple _ _ c.requires.0) _ _ inv.0 c.loop-rest-test.false
+          c.requires.1;
+      codes_after = put-end _ _ 6 _ _ inv.1 c.loop-rest-test.false;
+    }

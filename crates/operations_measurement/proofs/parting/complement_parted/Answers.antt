@@ -23,5 +23,9 @@ bounds-codes-q-2 c =
 
 pub returns : goal.returns
 returns c =
-    record { same_graph = c.complement_away.ensures.same_graph; codes_after = recoded-all _ _ c.requires.0 c.args.q c.requires.1 13 6 _ _ c.compose-first.ensures.0
-            c.complement_away.ensures.codes_after; value = refl }
+    record {
+      same_graph = c.complement_away.ensures.same_graph;
+      codes_after = recoded-all _ _ c.requires.0 c.args.q c.requires.1 13 6 _ _ c.compose-first.ensures.0
+          c.complement_away.ensures.codes_after;
+      value = refl;
+    }

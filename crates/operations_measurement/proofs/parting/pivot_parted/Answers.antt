@@ -33,10 +33,13 @@ single-requires c =
 pub join_turning-requires : goal.join_turning-requires
 join_turning-requires c =
     let words = c.args.neighbours.now in
-    let S = unrefused-simple _ _ c.requires.unrefused in record { unrefused = c.requires.unrefused; to_a_bound = (
+    let S = unrefused-simple _ _ c.requires.unrefused in record {
+      unrefused = c.requires.unrefused;
+      to_a_bound = (
         lt-of-bits (length words) _ (S.below c.args.q),
         closed-below words S _ _ c.requires.q_in_bounds.1 c.single.ensures,
-      ) }
+      );
+    }
 
 pub bounds-codes-q-2 : goal.bounds-codes-q-2
 bounds-codes-q-2 c =
@@ -59,6 +62,10 @@ returns c =
     let known = c.join_turning in
     let q = c.args.q in
     let k = c.args.k in
-    let es = c.single.ensures in record { same_graph = parted-edges _ _ c.requires.unrefused q k c.requires.q_in_bounds.0 c.requires.q_in_bounds.1 c.requires.k_value _ es c.join_turning.new.neighbours
-          c.join_turning.ensures.same_graph; codes_after = parted-codes _ _ c.requires.unrefused q k c.requires.q_in_bounds.0 c.requires.q_in_bounds.1 c.requires.k_value _ es _ _ _
-            c.compose-at_q.ensures.0 c.compose-at_k.ensures.0 c.join_turning.ensures.codes_after; by_index = parted-near _ _ c.requires.unrefused q k c.requires.q_in_bounds.0 c.requires.q_in_bounds.1 c.requires.k_value _ es _ c.flip.ensures }
+    let es = c.single.ensures in record {
+      same_graph = parted-edges _ _ c.requires.unrefused q k c.requires.q_in_bounds.0 c.requires.q_in_bounds.1 c.requires.k_value _ es c.join_turning.new.neighbours
+          c.join_turning.ensures.same_graph;
+      codes_after = parted-codes _ _ c.requires.unrefused q k c.requires.q_in_bounds.0 c.requires.q_in_bounds.1 c.requires.k_value _ es _ _ _
+          c.compose-at_q.ensures.0 c.compose-at_k.ensures.0 c.join_turning.ensures.codes_after;
+      by_index = parted-near _ _ c.requires.unrefused q k c.requires.q_in_bounds.0 c.requires.q_in_bounds.1 c.requires.k_value _ es _ c.flip.ensures;
+    }

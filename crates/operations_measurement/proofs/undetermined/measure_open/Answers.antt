@@ -14,8 +14,11 @@ sends-requires c = (unrefused-codes _ _ c.requires.unrefused.0).1 _
 
 pub measure_x-requires : goal.measure_x-requires
 measure_x-requires c =
-    record { unrefused = c.requires.unrefused; fact = open-neighbour _ _ c.requires.unrefused.0 c.args.q c.requires.unrefused.1 c.args.l c.requires.fact c.requires.q_value
-          (c.sends.ensures.0 c.if-sends.true) }
+    record {
+      unrefused = c.requires.unrefused;
+      fact = open-neighbour _ _ c.requires.unrefused.0 c.args.q c.requires.unrefused.1 c.args.l c.requires.fact c.requires.q_value
+          (c.sends.ensures.0 c.if-sends.true);
+    }
 
 pub returns-then-sends : goal.returns-then-sends
 returns-then-sends c =

@@ -17,7 +17,6 @@ turn_parted-requires c =
 pub returns : goal.returns
 returns c =
     let start = c.requires.unrefused in
-    
     pivot-measured _ _ start.0 c.args.q c.largest-k.result start.1
     c.largest-k.ensures.0 _ _ c.pivot_parted-near.ensures.codes_after c.pivot_parted-near.ensures.by_index c.args.outcome _ _
     c.pivot_parted-near.auto.neighbours c.pivot_parted-near.ensures.same_graph c.turn_parted.ensures

@@ -9,7 +9,6 @@ turn_parted-requires c =
 pub returns : goal.returns
 returns c =
     let start = c.requires in
-    
     complement-measured _ _ start.0 c.args.q start.1 _ _ c.complement_parted-near.ensures.codes_after c.complement_parted-near.ensures.value
     c.args.outcome _ _
     c.complement_parted-near.auto.neighbours c.complement_parted-near.ensures.same_graph c.turn_parted.ensures

@@ -97,10 +97,7 @@ loop-rest-smaller c =
 pub loop-rest-preserved : goal.loop-rest-preserved
 loop-rest-preserved c =
     let at-smallest = c.before.before.before.before in
-    
     let inv = at-smallest.loop-rest.invariant in
-    
-    
     let U = at-smallest.requires.0 in
     let dropped = dropped-at _ _ _ c.without_smallest-rest.ensures at-smallest.smallest-i.ensures.0 in (
       complement-more _ at-smallest.args.a _ _ inv.0 (unrefused-short _ _ U) at-smallest.loop-rest-test.true _

@@ -53,9 +53,6 @@ loop-rest-smaller c =
 pub loop-rest-preserved : goal.loop-rest-preserved
 loop-rest-preserved c =
     let at-smallest = c.before.before in
-    
-    
-    
     put-more _ at-smallest.args.word at-smallest.args.k _ _ at-smallest.loop-rest.invariant at-smallest.requires.codes_len_bound.0
     at-smallest.loop-rest-test.true _ at-smallest.smallest-i.ensures.0 _ _
     (at-smallest.before_each-turned.ensures _ (small at-smallest))

@@ -19,7 +19,10 @@ turn_rows-requires-3 c =
 pub returns : goal.returns
 returns c =
     let a = c.args.to_a in
-    let b = c.args.to_b in record { same_graph = flipped-thrice a b c.args.neighbours.now c.turn_rows.new.neighbours c.turn_rows-2.new.neighbours
+    let b = c.args.to_b in record {
+      same_graph = flipped-thrice a b c.args.neighbours.now c.turn_rows.new.neighbours c.turn_rows-2.new.neighbours
           c.turn_rows-3.new.neighbours c.turn_rows.ensures.same_graph c.turn_rows-2.ensures.same_graph
-          c.turn_rows-3.ensures.same_graph; codes_after = turned-thrice a b c.args.codes.now _ _ _ c.turn_rows.ensures.codes_after c.turn_rows-2.ensures.codes_after
-          c.turn_rows-3.ensures.codes_after }
+          c.turn_rows-3.ensures.same_graph;
+      codes_after = turned-thrice a b c.args.codes.now _ _ _ c.turn_rows.ensures.codes_after c.turn_rows-2.ensures.codes_after
+          c.turn_rows-3.ensures.codes_after;
+    }

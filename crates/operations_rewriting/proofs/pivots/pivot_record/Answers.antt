@@ -36,10 +36,13 @@ single-requires-2 c =
 pub join_turning-requires : goal.join_turning-requires
 join_turning-requires c =
     let words = c.args.neighbours.now in
-    let S = unrefused-simple _ _ c.requires.unrefused in record { unrefused = c.requires.unrefused; to_a_bound = (
+    let S = unrefused-simple _ _ c.requires.unrefused in record {
+      unrefused = c.requires.unrefused;
+      to_a_bound = (
         closed-below words S _ _ c.requires.j_in_bounds.0 c.single.ensures,
         closed-below words S _ _ c.requires.j_in_bounds.1 c.single-2.ensures,
-      ) }
+      );
+    }
 
 pub bounds-codes-j-2 : goal.bounds-codes-j-2
 bounds-codes-j-2 c =
@@ -56,7 +59,6 @@ bounds-codes-k-2 c =
 pub returns : goal.returns
 returns c =
     let words = c.args.neighbours.now in
-    
     let known = c.join_turning in
     pivoted _ _ c.requires.unrefused c.args.j c.args.k c.requires.j_in_bounds.0 c.requires.j_in_bounds.1 c.requires.k_value _ _
     (both-recoded _ _ c.requires.unrefused c.args.j c.args.k c.requires.j_in_bounds.0 c.requires.j_in_bounds.1 _ _

@@ -88,10 +88,7 @@ loop-rest-smaller c =
 pub loop-rest-preserved : goal.loop-rest-preserved
 loop-rest-preserved c =
     let at-smallest = c.before.before.before in
-    
     let inv = at-smallest.loop-rest.invariant in
-    
-    
     let least = at-smallest.smallest-i.ensures.0 in
     let dropped = dropped-at _ _ _ c.without_smallest-rest.ensures least in (
       flip-more _ _ at-smallest.args.word _ _ inv.0 at-smallest.requires.neighbours_len_bound.0 at-smallest.loop-rest-test.true _ least _ dropped,

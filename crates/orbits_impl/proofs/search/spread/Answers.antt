@@ -9,11 +9,10 @@ use Rattle.orbits_impl.proofs.Marking.{tail-fits}
 use Rattle.orbits_impl.proofs.search.spread.Goals as goal
 
 pub visit-tail-requires : goal.visit-tail-requires
-visit-tail-requires c =
-    (
-      lt_of_lt_of_le c.requires.2 (graphs-fit c.args.n c.requires.1),
-      none-marked c.args.marks.now c.args.list.now c.requires.4 c.requires.3,
-    )
+visit-tail-requires c = (
+  lt_of_lt_of_le c.requires.2 (graphs-fit c.args.n c.requires.1),
+  none-marked c.args.marks.now c.args.list.now c.requires.4 c.requires.3,
+)
 
 pub loop-head-init : goal.loop-head-init
 loop-head-init c =
@@ -32,12 +31,15 @@ overflow_cast-next c = omega (arith, c.slice_known-in-loop-head-1.given c.loop-h
 
 pub visit_around-tail-requires : goal.visit_around-tail-requires
 visit_around-tail-requires c =
-    record { le_n = (
+    record {
+      le_n = (
         c.requires.0,
         c.requires.1,
         next_small c.args.n c.args.g c.requires.1 c.requires.2 c.loop-head.invariant c.loop-head-test.true,
         c.all_pairs_within-within.ensures,
-      ); queue = c.loop-head.invariant.queue }
+      );
+      queue = c.loop-head.invariant.queue;
+    }
 
 pub loop-head-smaller : goal.loop-head-smaller
 loop-head-smaller c =

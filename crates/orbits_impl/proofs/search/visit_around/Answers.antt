@@ -31,13 +31,12 @@ visit-end-requires c =
     (around-small p.1 c.graph_words-words.ensures c.loop-a.a p.2 _ p.3, c.loop-a.invariant.1.queue)
 
 pub loop-a-preserved : goal.loop-a-preserved
-loop-a-preserved c =
-    (
-      omega arith,
-      around-more c.args.n c.args.g c.loop-a.a c.loop-a.invariant.1 _
-          (around-number c.requires.le_n.1 c.graph_words-words.ensures c.loop-a.a c.requires.le_n.2 _ c.requires.le_n.3)
-          c.visit-end.ensures,
-    )
+loop-a-preserved c = (
+  omega arith,
+  around-more c.args.n c.args.g c.loop-a.a c.loop-a.invariant.1 _
+      (around-number c.requires.le_n.1 c.graph_words-words.ensures c.loop-a.a c.requires.le_n.2 _ c.requires.le_n.3)
+      c.visit-end.ensures,
+)
 
 pub returns : goal.returns
 returns c =

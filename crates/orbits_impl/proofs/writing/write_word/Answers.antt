@@ -26,13 +26,13 @@ overflow_cast-list c =
 pub offset_bounds-list-end : goal.offset_bounds-list-end
 offset_bounds-list-end c =
     record {
-  fits = omega (
-    arith,
-    emit-room c.loop-rest.invariant c.requires.1 c.loop-rest-test.true _
-        c.smallest-q.ensures.0,
-    c.loop-rest.invariant.long,
-  );
-}
+      fits = omega (
+        arith,
+        emit-room c.loop-rest.invariant c.requires.1 c.loop-rest-test.true _
+            c.smallest-q.ensures.0,
+        c.loop-rest.invariant.long,
+      );
+    }
 
 pub bounds-list-end : goal.bounds-list-end
 bounds-list-end c =
@@ -42,11 +42,11 @@ bounds-list-end c =
 pub overflow_add-end : goal.overflow_add-end
 overflow_add-end c =
     omega (
-  arith,
-  emit-room c.loop-rest.invariant c.requires.1 c.loop-rest-test.true _
-      c.smallest-q.ensures.0,
-  c.loop-rest.invariant.long,
-)
+      arith,
+      emit-room c.loop-rest.invariant c.requires.1 c.loop-rest-test.true _
+          c.smallest-q.ensures.0,
+      c.loop-rest.invariant.long,
+    )
 
 pub flip-rest-requires : goal.flip-rest-requires
 flip-rest-requires c = first_small _ c.loop-rest.invariant.small c.loop-rest-test.true _ c.smallest-q.ensures.0

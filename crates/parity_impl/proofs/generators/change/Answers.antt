@@ -56,9 +56,6 @@ loop-j-smaller c =
 pub loop-j-preserved : goal.loop-j-preserved
 loop-j-preserved c =
     let r = c.cleared-next.result in
-    
-    
-    
     one-changed _ _ _ _ c.requires.zs_len.0 c.requires.zs_len.1 _ _ _ _ c.loop-j.invariant c.loop-j-test.true
     r.minus r.z r.x _ c.sign_digit.ensures c.cleared-next.ensures
 

@@ -50,7 +50,6 @@ first_against-g-requires c =
     let E = c.before.before.before.before.before.before.before in
     let S = at E in
     let a = S.args in
-    
     search-ready (lent S) (held S) a.z a.x S.requires.z_bound.0 S.requires.z_bound.1 S.requires.x_value a.bit _ _ _
     E.expand_into.ensures.signs_after E.expand_into.ensures.z_after E.expand_into.ensures.x_after
 
@@ -68,8 +67,11 @@ reduce_list-requires c =
     let F = by C in
     let E = of F in
     let S = at E in
-    let a = S.args in record { reducible = reduce-ready (lent S) (held S) a.z a.x S.requires.z_bound.0 S.requires.z_bound.1 S.requires.x_value a.bit _ _ _
-          E.expand_into.ensures.signs_after E.expand_into.ensures.z_after E.expand_into.ensures.x_after _ F.first_against-g.ensures _ _ _ C.change.ensures; neighbours_len = (refl, (held S).codes-length) }
+    let a = S.args in record {
+      reducible = reduce-ready (lent S) (held S) a.z a.x S.requires.z_bound.0 S.requires.z_bound.1 S.requires.x_value a.bit _ _ _
+          E.expand_into.ensures.signs_after E.expand_into.ensures.z_after E.expand_into.ensures.x_after _ F.first_against-g.ensures _ _ _ C.change.ensures;
+      neighbours_len = (refl, (held S).codes-length);
+    }
 
 pub returns : goal.returns
 returns c =
@@ -78,7 +80,6 @@ returns c =
     let E = of F in
     let S = at E in
     let a = S.args in
-    
     let w = reduced-written (lent S) (held S) a.z a.x S.requires.z_bound.0 S.requires.z_bound.1 S.requires.x_value
     a.bit
     _ _ _ E.expand_into.ensures.signs_after E.expand_into.ensures.z_after E.expand_into.ensures.x_after _ F.first_against-g.ensures _ _ _ C.change.ensures _ _ _ _ _

@@ -53,11 +53,10 @@ returns-then-word_at-reaches_out c =
     some-found _ _ c.loop-i.invariant.1 _ c.loop-i-test.true (sym (test-here c.before.before) ∙ c.if-word_at-reaches_out.true)
 
 pub loop-i-preserved : goal.loop-i-preserved
-loop-i-preserved c =
-    (
-      omega (arith, c.loop-i-test.true),
-      none_here _ _ c.loop-i.invariant.1 (sym (test-here c.before.before) ∙ c.if-word_at-reaches_out.false),
-    )
+loop-i-preserved c = (
+  omega (arith, c.loop-i-test.true),
+  none_here _ _ c.loop-i.invariant.1 (sym (test-here c.before.before) ∙ c.if-word_at-reaches_out.false),
+)
 
 pub returns : goal.returns
 returns c = no-some _ _ c.loop-i.invariant.1 _ c.loop-i-test.false

@@ -43,12 +43,11 @@ returns-then-n c =
     (ap (λ n. not (eqb n 0) && not (eqb n 64)) (sym (count-here c.before.before)) ∙ c.if-n.true)
 
 pub loop-i-preserved : goal.loop-i-preserved
-loop-i-preserved c =
-    (
-      omega (arith, c.loop-i-test.true),
-      none_here _ _ c.loop-i.invariant.1
-          (ap (λ n. not (eqb n 0) && not (eqb n 64)) (sym (count-here c.before.before)) ∙ c.if-n.false),
-    )
+loop-i-preserved c = (
+  omega (arith, c.loop-i-test.true),
+  none_here _ _ c.loop-i.invariant.1
+      (ap (λ n. not (eqb n 0) && not (eqb n 64)) (sym (count-here c.before.before)) ∙ c.if-n.false),
+)
 
 pub returns : goal.returns
 returns c = no-some _ _ c.loop-i.invariant.1 _ c.loop-i-test.false

@@ -14,7 +14,6 @@ bounds-neighbours-j c =
 pub loop-j-preserved : goal.loop-j-preserved
 loop-j-preserved c =
     let l = c.loop-j in
-    
     let a = c.args in
     some-to-one l.j 64 _ l.found _ c.loop-j-test.true
     (crossing-here a.word a.neighbours.now l.j c.others-other.ensures c.pick_word.ensures

@@ -35,13 +35,11 @@ loop-q-preserved c =
 pub shape_of-words : goal.shape_of-words
 shape_of-words c =
     let l = c.loop-q in
-    
     l.invariant.0.long ∙ sym c.requires.words_len.0
 
 pub shape_of-bytes : goal.shape_of-bytes
 shape_of-bytes c =
     let l = c.loop-q in
-    
     l.invariant.1.long ∙ sym c.requires.words_len.1
 
 pub returns : goal.returns

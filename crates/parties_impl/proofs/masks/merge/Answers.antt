@@ -40,7 +40,6 @@ bounds-codes-q-in-loop-q c =
 pub loop-q-preserved : goal.loop-q-preserved
 loop-q-preserved c =
     let l = c.loop-q in
-    
     let a = c.args in (
       mapped-store _ _ l.neighbours l.q _ l.invariant.0 (omega (arith, c.loop-q-test.true, c.requires.neighbours_len.0))
           (c.pick_word.ensures ∙ ap (cond (bit a.own l.q) (get_or a.words.now l.q 0))
@@ -58,8 +57,7 @@ shape_of-codes c = c.loop-q.invariant.1.long
 
 pub returns : goal.returns
 returns c =
-    let l = c.loop-q in
-    (
+    let l = c.loop-q in (
       tabulate-is 64 _ _ (l.invariant.0.long ∙ c.requires.neighbours_len.0)
           (λ q h. l.invariant.0.done q (lt_of_lt_of_le h c.loop-q-test.false)),
       tabulate-is 64 _ _ (l.invariant.1.long ∙ c.requires.neighbours_len.1)

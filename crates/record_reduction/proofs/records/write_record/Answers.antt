@@ -25,7 +25,6 @@ bounds-codes-q c =
 pub loop-q-preserved : goal.loop-q-preserved
 loop-q-preserved c =
     let L = c.loop-q in
-    
     let a = c.args in
     let l = c.loop-q-test.true in (
       omega arith,

@@ -27,14 +27,17 @@ add_to_later-requires c =
     let I = C.before in
     let L = I.before in
     let S = L.before.before.before.before.before in
-    let a = S.args in record { z_len = (L.loop-k.invariant.z-long, L.loop-k.invariant.x-long); n_bound = (
+    let a = S.args in record {
+      z_len = (L.loop-k.invariant.z-long, L.loop-k.invariant.x-long);
+      n_bound = (
         S.requires.n_bound.0,
         I.loop-k-test.true,
         place-below a.n (letters_of a.z.now a.x.now) L.loop-k.own_z L.loop-k.own_x L.loop-k.k
             L.loop-k.invariant
             I.loop-k-test.true _ C.chosen_word-word.ensures S.requires.n_bound.0 c.if-word-eq0.false _
             c.smallest.ensures.0,
-      ) }
+      );
+    }
 
 pub loop-k-preserved : goal.loop-k-preserved
 loop-k-preserved c =

@@ -19,11 +19,10 @@ returns-then-word_at-gt64 c =
     (ap (ltb 64) (sym c.word_at.ensures) ∙ lt-ltb 64 _ c.if-word_at-gt64.true)
 
 pub loop-i-preserved : goal.loop-i-preserved
-loop-i-preserved c =
-    (
-      omega (arith, c.loop-i-test.true),
-      none_here _ _ c.loop-i.invariant.1 (ap (ltb 64) (sym c.word_at.ensures) ∙ le-ltb 64 _ c.if-word_at-gt64.false),
-    )
+loop-i-preserved c = (
+  omega (arith, c.loop-i-test.true),
+  none_here _ _ c.loop-i.invariant.1 (ap (ltb 64) (sym c.word_at.ensures) ∙ le-ltb 64 _ c.if-word_at-gt64.false),
+)
 
 pub returns : goal.returns
 returns c = no-some _ _ c.loop-i.invariant.1 _ c.loop-i-test.false

@@ -48,16 +48,12 @@ twice-here W =
 pub returns-then-word_at-before : goal.returns-then-word_at-before
 returns-then-word_at-before c =
     let W = c.before.before in
-    
-    
     some-found _ _ W.loop-i.invariant.1 _ W.loop-i-test.true
     (sym (twice-here W) ∙ c.if-word_at-before.true)
 
 pub loop-i-preserved : goal.loop-i-preserved
 loop-i-preserved c =
-    let W = c.before.before in
-    
-    (
+    let W = c.before.before in (
       omega (arith, W.loop-i-test.true),
       none_here _ _ W.loop-i.invariant.1 (sym (twice-here W) ∙ c.if-word_at-before.false),
     )

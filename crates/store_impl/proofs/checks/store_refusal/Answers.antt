@@ -30,8 +30,11 @@ returns-then-wrong_lengths-others c =
 
 pub store_number-number-requires : goal.store_number-number-requires
 store_number-number-requires c =
-    let S = c.before.before.before.before.before.before.before.before in record { k_bound = (S.requires, sym c.large_count.ensures ∙ c.if-large_count.false); neighbours_len = lengths-fit _ (lent S) S.args.others
-          (ap (λ b. b || S.args.others) (sym c.wrong_lengths.ensures) ∙ c.if-wrong_lengths-others.false) }
+    let S = c.before.before.before.before.before.before.before.before in record {
+      k_bound = (S.requires, sym c.large_count.ensures ∙ c.if-large_count.false);
+      neighbours_len = lengths-fit _ (lent S) S.args.others
+          (ap (λ b. b || S.args.others) (sym c.wrong_lengths.ensures) ∙ c.if-wrong_lengths-others.false);
+    }
 
 pub returns-then-number-ne0 : goal.returns-then-number-ne0
 returns-then-number-ne0 c =

@@ -14,15 +14,17 @@ slice_bounds-copy_record-end-6 c =
 
 pub copy_record-requires : goal.copy_record-requires
 copy_record-requires c =
-    let words = part_count c.args.i c.args.n c.args.held_neighbours.now c.requires.n_in_bounds.0 in record { codes_len = part_count c.args.i c.args.n c.args.held_codes.now c.requires.n_in_bounds.1 ∙ sym words; words_len = (
+    let words = part_count c.args.i c.args.n c.args.held_neighbours.now c.requires.n_in_bounds.0 in record {
+      codes_len = part_count c.args.i c.args.n c.args.held_codes.now c.requires.n_in_bounds.1 ∙ sym words;
+      words_len = (
         length-take-le c.args.n c.args.neighbours.now c.requires.i_bound.1 ∙ sym words,
         length-take-le c.args.n c.args.codes.now c.requires.i_bound.2 ∙ sym words,
-      ) }
+      );
+    }
 
 pub returns : goal.returns
-returns c =
-    (
-      taken_out _ _ c.args.held_neighbours.now _ c.args.neighbours.now c.requires.n_in_bounds.0
-          c.copy_record.ensures.0,
-      taken_out _ _ c.args.held_codes.now _ c.args.codes.now c.requires.n_in_bounds.1 c.copy_record.ensures.1,
-    )
+returns c = (
+  taken_out _ _ c.args.held_neighbours.now _ c.args.neighbours.now c.requires.n_in_bounds.0
+      c.copy_record.ensures.0,
+  taken_out _ _ c.args.held_codes.now _ c.args.codes.now c.requires.n_in_bounds.1 c.copy_record.ensures.1,
+)

@@ -18,11 +18,10 @@ returns-then-has_name c =
     (sym c.has_name.ensures ∙ c.if-has_name.true)
 
 pub loop-i-preserved : goal.loop-i-preserved
-loop-i-preserved c =
-    (
-      omega (arith, c.loop-i-test.true),
-      none_here _ _ c.loop-i.invariant.1 (sym c.has_name.ensures ∙ c.if-has_name.false),
-    )
+loop-i-preserved c = (
+  omega (arith, c.loop-i-test.true),
+  none_here _ _ c.loop-i.invariant.1 (sym c.has_name.ensures ∙ c.if-has_name.false),
+)
 
 pub returns : goal.returns
 returns c = none_found _ _ c.loop-i.invariant.1 _ c.loop-i-test.false

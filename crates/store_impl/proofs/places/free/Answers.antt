@@ -17,11 +17,10 @@ returns-then-is_free c =
     (sym c.is_free.ensures ∙ c.if-is_free.true)
 
 pub loop-i-preserved : goal.loop-i-preserved
-loop-i-preserved c =
-    (
-      omega (arith, c.loop-i-test.true),
-      none_here _ _ c.loop-i.invariant.1 (sym c.is_free.ensures ∙ c.if-is_free.false),
-    )
+loop-i-preserved c = (
+  omega (arith, c.loop-i-test.true),
+  none_here _ _ c.loop-i.invariant.1 (sym c.is_free.ensures ∙ c.if-is_free.false),
+)
 
 pub returns : goal.returns
 returns c = none_found _ _ c.loop-i.invariant.1 _ c.loop-i-test.false

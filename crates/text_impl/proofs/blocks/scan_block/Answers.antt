@@ -58,11 +58,11 @@ loop-i-preserved c =
     let on = fed-more feed _ sofar _ l.i inside l.invariant.1 in (
       search rules,
       elim c.if-row-count.branch [
-      then-row-count w ↦ (λ k. as_reading next (w.signs-is k) (w.z-is k) (w.x-is k))
-          ∙ on _ (feed-stored sofar _ _ stepped w.if-row-count.true)
-    | else-row-count w ↦ (λ k. as_reading next (w.signs-is k) (w.z-is k) (w.x-is k))
-          ∙ on _ (feed-kept sofar _ _ stepped w.if-row-count.false)
-    ],
+        | then-row-count w ↦ (λ k. as_reading next (w.signs-is k) (w.z-is k) (w.x-is k))
+            ∙ on _ (feed-stored sofar _ _ stepped w.if-row-count.true)
+        | else-row-count w ↦ (λ k. as_reading next (w.signs-is k) (w.z-is k) (w.x-is k))
+            ∙ on _ (feed-kept sofar _ _ stepped w.if-row-count.false)
+      ],
     )
 
 pub returns : goal.returns

@@ -15,27 +15,27 @@ pub returns-then-b-lt97 : goal.returns-then-b-lt97
 unfolding hex_value
 returns-then-b-lt97 c =
     simp (
-  le-ltb _ _ c.if-b-lt48.false,
-  le-ltb _ _ c.if-b-lt58.false,
-  lt-ltb _ _ c.if-b-lt97.true,
-)
+      le-ltb _ _ c.if-b-lt48.false,
+      le-ltb _ _ c.if-b-lt58.false,
+      lt-ltb _ _ c.if-b-lt97.true,
+    )
 
 pub returns-then-b-lt103 : goal.returns-then-b-lt103
 unfolding hex_value
 returns-then-b-lt103 c =
     simp (
-  le-ltb _ _ c.if-b-lt48.false,
-  le-ltb _ _ c.if-b-lt58.false,
-  le-ltb _ _ c.if-b-lt97.false,
-  lt-ltb _ _ c.if-b-lt103.true,
-)
+      le-ltb _ _ c.if-b-lt48.false,
+      le-ltb _ _ c.if-b-lt58.false,
+      le-ltb _ _ c.if-b-lt97.false,
+      lt-ltb _ _ c.if-b-lt103.true,
+    )
 
 pub returns : goal.returns
 unfolding hex_value
 returns c =
     simp (
-  le-ltb _ _ c.if-b-lt48.false,
-  le-ltb _ _ c.if-b-lt58.false,
-  le-ltb _ _ c.if-b-lt97.false,
-  le-ltb _ _ c.if-b-lt103.false,
-)
+      le-ltb _ _ c.if-b-lt48.false,
+      le-ltb _ _ c.if-b-lt58.false,
+      le-ltb _ _ c.if-b-lt97.false,
+      le-ltb _ _ c.if-b-lt103.false,
+    )

@@ -15,16 +15,16 @@ pub returns-then-k-eq8 : goal.returns-then-k-eq8
 unfolding names_step
 returns-then-k-eq8 c =
     simp (
-  lt-ltb _ _ c.if-k-ge9.false,
-  eq-eqb _ _ c.if-b-k.false,
-  eq-eqb _ _ c.if-k-eq8.true,
-)
+      lt-ltb _ _ c.if-k-ge9.false,
+      eq-eqb _ _ c.if-b-k.false,
+      eq-eqb _ _ c.if-k-eq8.true,
+    )
 
 pub returns : goal.returns
 unfolding names_step
 returns c =
     simp (
-  lt-ltb _ _ c.if-k-ge9.false,
-  eq-eqb _ _ c.if-b-k.false,
-  ne_eqb _ _ c.if-k-eq8.false,
-)
+      lt-ltb _ _ c.if-k-ge9.false,
+      eq-eqb _ _ c.if-b-k.false,
+      ne_eqb _ _ c.if-k-eq8.false,
+    )

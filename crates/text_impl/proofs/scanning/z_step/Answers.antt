@@ -19,17 +19,17 @@ pub returns-then-d-ge16 : goal.returns-then-d-ge16
 unfolding z_step
 returns-then-d-ge16 c =
     simp (
-  lt-ltb _ _ c.if-k-ge-DIGITS.false,
-  ← c.hex_value-d.ensures,
-  le-ltb _ _ c.if-d-ge16.true,
-) c.at_place-then-d-ge16.ensures
+      lt-ltb _ _ c.if-k-ge-DIGITS.false,
+      ← c.hex_value-d.ensures,
+      le-ltb _ _ c.if-d-ge16.true,
+    ) c.at_place-then-d-ge16.ensures
 
 pub returns : goal.returns
 unfolding z_step
 returns c =
     simp (
-  lt-ltb _ _ c.if-k-ge-DIGITS.false,
-  ← c.hex_value-d.ensures,
-  lt-ltb _ _ c.if-d-ge16.false,
-  c.pushed-z.ensures,
-)
+      lt-ltb _ _ c.if-k-ge-DIGITS.false,
+      ← c.hex_value-d.ensures,
+      lt-ltb _ _ c.if-d-ge16.false,
+      c.pushed-z.ensures,
+    )

@@ -15,14 +15,13 @@ unfolding hex_of
 loop-k-init c = (zero-le, refl)
 
 pub loop-k-preserved : goal.loop-k-preserved
-loop-k-preserved c =
-    (
-      search rules,
-      c.pushed-w.ensures
-          ∙ ap₂ (λ w d. push w (d % 16)) c.loop-k.invariant.1
-          (c.hex_value.ensures ∙ ap hex_value c.byte_at.ensures)
-          ∙ word_more _ c.loop-k.k c.loop-k-test.true,
-    )
+loop-k-preserved c = (
+  search rules,
+  c.pushed-w.ensures
+      ∙ ap₂ (λ w d. push w (d % 16)) c.loop-k.invariant.1
+      (c.hex_value.ensures ∙ ap hex_value c.byte_at.ensures)
+      ∙ word_more _ c.loop-k.k c.loop-k-test.true,
+)
 
 pub returns : goal.returns
 returns c =

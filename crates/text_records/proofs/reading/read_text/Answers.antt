@@ -35,7 +35,7 @@ abbrev followed : (A : AtLoopAt) →
     A.loop-at.at
 followed A = A.loop-at.invariant
 
-told : (R : AfterReadLineRead) → 
+told : (R : AfterReadLineRead) →
     LineTold R.loop-at.count (from_line (text R.before.before.before.before.before) R.loop-at.count) R.read_line-read.result
 told R =
     let A = R.before.before.before in
@@ -56,18 +56,16 @@ loop-at-init c =
 pub returns-then-not-fits : goal.returns-then-not-fits
 returns-then-not-fits c =
     let R = c.before.before.before in
-    
     let A = R.before.before.before in
     told_none (text A.before.before) c.no_form-then-not-fits.result c.no_form-then-not-fits.ensures
     (line-missing (text A.before.before) (followed A) R.loop-at-test.true R.read_line-read.result (told R)
     (not-true _ c.if-not-fits.true-raw))
 
 -- the next line lies within the text, and has some bytes
-inside : (E : ElseNotFits) → 
+inside : (E : ElseNotFits) →
     (E.loop-at.at + E.read_line-read.result.size ≤ length (text E.before.before.before.before.before.before)) × (0 < E.read_line-read.result.size)
 inside E =
     let R = E.before in
-    
     let A = R.before.before.before in
     next-inside (text A.before.before) (followed A) R.loop-at-test.true R.read_line-read.result (told R)
     (not-false _ E.if-not-fits.false-raw)
@@ -75,7 +73,6 @@ inside E =
 pub overflow_add-at : goal.overflow_add-at
 overflow_add-at c =
     let E = c.before.before.before.before in
-    
     record { fits = omega (arith, (inside E).0, E.well_formed.0.0) }
 
 pub overflow_add-count : goal.overflow_add-count
@@ -89,13 +86,11 @@ overflow_add-count c =
 pub loop-at-smaller : goal.loop-at-smaller
 loop-at-smaller c =
     let E = c.before.before.before.before in
-    
     omega (arith, inside E, E.loop-at-test.true)
 
 pub loop-at-preserved : goal.loop-at-preserved
 loop-at-preserved c =
     let R = c.before.before.before.before.before in
-    
     let A = R.before.before.before in
     one-followed (text A.before.before) (followed A) R.loop-at-test.true R.read_line-read.result (told R)
     (not-false _ c.if-not-fits.false-raw) c.put_bit-used.ensures

@@ -7,11 +7,10 @@ pub loop-j-init : goal.loop-j-init
 loop-j-init c = no_lines _ _ _ c.requires.out_len
 
 pub put_string-at-requires : goal.put_string-at-requires
-put_string-at-requires c =
-    (
-      c.requires.n_bound.0,
-      line-room _ _ _ c.requires.out_len _ _ _ c.loop-j.invariant c.loop-j-test.true,
-    )
+put_string-at-requires c = (
+  c.requires.n_bound.0,
+  line-room _ _ _ c.requires.out_len _ _ _ c.loop-j.invariant c.loop-j-test.true,
+)
 
 pub loop-j-preserved : goal.loop-j-preserved
 loop-j-preserved c =

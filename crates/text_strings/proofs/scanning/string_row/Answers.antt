@@ -17,12 +17,11 @@ more_letters-low-requires c =
     )
 
 pub more_letters-high-requires : goal.more_letters-high-requires
-more_letters-high-requires c =
-    (
-      letter-fit c.args.text.now c.args.from (c.args.n / 2 + c.loop-q.q) (omega (arith, c.loop-q-test.true))
-          c.args.n c.requires.2 (omega (arith, c.loop-q.invariant.1.upto)),
-      room _ _ _ c.loop-q.invariant.1 c.loop-q-test.true (omega (arith, c.requires.0)),
-    )
+more_letters-high-requires c = (
+  letter-fit c.args.text.now c.args.from (c.args.n / 2 + c.loop-q.q) (omega (arith, c.loop-q-test.true))
+      c.args.n c.requires.2 (omega (arith, c.loop-q.invariant.1.upto)),
+  room _ _ _ c.loop-q.invariant.1 c.loop-q-test.true (omega (arith, c.requires.0)),
+)
 
 pub loop-q-preserved : goal.loop-q-preserved
 loop-q-preserved c =
