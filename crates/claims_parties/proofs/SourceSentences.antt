@@ -41,7 +41,8 @@ use Rattle.buffers.specs.Calls.{Call}
 use Rattle.source.proofs.ObservedParties.{lines-number, observed-passes-party}
 use Rattle.source.proofs.RenewedMasks.{renewed-apart, renewed-passes-party}
 use Rattle.source.specs.PartySources.{party_observe_lines, party_renew_lines}
-use Rattle.parties.proofs.PartyInWords.{arguments-in-words, edge-between, other-parties}
+use Rattle.parties.proofs.PartyInWords.{edge-between, other-parties}
+use Rattle.parties.proofs.PartyCallsInWords.{arguments-in-words}
 use Rattle.parties.specs.PartySentences.{party_argument_sentences}
 use Rattle.parties.specs.Masks.{crosses, in_party}
 use Rattle.parties.specs.internal.Apart.{Apart}

@@ -21,4 +21,6 @@ pub mod SameGroupsLent
 pub mod SameGroupsMade
 pub mod SameGroups
 pub mod AloneNumbers
+pub mod PartyArguments
 pub mod PartyInWords
+pub mod PartyCallsInWords

@@ -1,43 +1,38 @@
 -- The tests of a party's calls decide the sentences of their lines.
 use mathlib.Core.Bool.{Bool, false, not, true, true≢false, ◌||◌}
-use mathlib.Core.List.{List}
 use mathlib.Core.Logic.{◌≢◌}
 use mathlib.Core.Path.{refl, sym, ◌≡◌}
 use Prim.Native.Nat.{◌<◌, ◌≤◌, suc, zero, ℕ}
 use native.Mathlib.Omega.{arith}
-use lib.Dec.{eqb, lit<, ltb}
+use lib.Dec.{eqb, ltb}
 use lib.ListN.{get_or}
 use borrow.Author.Tests.{ltb-false}
-use Rattle.buffers.proofs.AddedLines.{before-passes, test-numbered, test-passes}
-use Rattle.buffers.proofs.Lines.{Numbered}
 use Rattle.buffers.proofs.SentenceLaws.{
   Decides,
   Matches,
   above,
   and-decides,
   and-line,
-  at_most,
   bad-count,
   equal,
-  from,
   itself,
   not-decides,
   or-decides,
   or-none,
   some-decides,
 }
-use Rattle.buffers.specs.Refusals.{Refusal, first_fitting, inserted_before, line, with_test}
-use Rattle.operations.specs.Steps.{complement_of, cz_on, gate_with, in_place_lines, measurement_of}
-use Rattle.record.proofs.RecordInWords.{code-above-23, misfits}
+use Rattle.buffers.specs.Refusals.{inserted_before, line}
+use Rattle.operations.specs.Steps.{in_place_lines}
+use Rattle.record.proofs.RecordInWords.{misfits}
 use Rattle.record.specs.Lent.{record_codes}
 use Rattle.store.proofs.StoreInWords.{held, not-held, of-2, of-4, of-5, of-6, of-7, others-held, store-misfits, twice}
 use Rattle.store.specs.Places.{Store, count_at, is_held, place_at}
 use Rattle.store.specs.StoreLines.{holds_line, of_record}
-use Rattle.operations.proofs.UsedInWords.{contradicted, no_record, stray-bit}
-use Rattle.operations.specs.Used.{UsedRecord, used_arguments_of, with_used}
+use Rattle.operations.proofs.UsedInWords.{no_record, stray-bit}
+use Rattle.operations.specs.Used.{UsedRecord, with_used}
 use Rattle.words.proofs.Flags.{neither, same_bit-true, true-same_bit}
 use Rattle.words.specs.Bits.{bit, digit, same_bit}
-use Rattle.parties.specs.PartyLines.{party_lines, outsider, with_party}
+use Rattle.parties.specs.PartyLines.{outsider, with_party}
 use Rattle.parties.specs.PartyStores.{
   party_named_lines,
   party_save_lines,
@@ -52,11 +47,6 @@ use Rattle.parties.specs.PartySentences.{
   Elsewhere,
   OtherParties,
   NeighbourOutside,
-  party_argument_sentences,
-  party_complement_sentences,
-  party_cz_sentences,
-  party_gate_sentences,
-  party_measure_sentences,
   party_named_sentences,
   party_save_sentences,
   party_sentences,
@@ -91,9 +81,9 @@ unfolding reaches_out
 reaches-out word g u low = some-decides u.held.n _ _ (λ j. some-decides u.held.n _ _ (λ k.
     and-decides (itself {a = bit (get_or u.held.neighbours j 0) k}) (elsewhere word g k low)))
 
--- ---- a party's gate, cz, measurement and complementation
+-- ---- a party's gate, cz, measurement and complementation, whose own lines are in PartyCallsInWords
 module _ (word g : ℕ) (u : UsedRecord) where
-  party-in-words : (six eight named other : Bool) (Six Nineteen Eight Sixteen : Type 0)
+  pub party-in-words : (six eight named other : Bool) (Six Nineteen Eight Sixteen : Type 0)
       → Decides (record_codes u.held || six) Six → (ltb 1 g ≡ false → Decides other Nineteen) → Decides eight Eight
       → Decides named Sixteen
       → Matches (inserted_before 8 (line 19 (crosses word u || other))
@@ -144,48 +134,6 @@ module _ (word g : ℕ) (u : UsedRecord) where
       -- no line 6: the party is 0 or 1
       low : (a : Bool) → ((a || ltb 1 g) || false) ≡ false → ltb 1 g ≡ false
       low a e = (neither a (ltb 1 g) (neither (a || ltb 1 g) false e).0).1
-
-  pub gate-in-words : (q k : ℕ) → Matches (party_lines word g u (gate_with q k)) (party_gate_sentences word g u q k)
-  gate-in-words q k = party-in-words _ _ _ _ _ _ _ _ (or-decides (code-above-23 u.held) (from 23 k))
-      (other-parties word g u q) (at_most u.held.n q) itself
-
-  pub cz-in-words : (a b : ℕ) → Matches (party_lines word g u (cz_on a b)) (party_cz_sentences word g u a b)
-  cz-in-words a b = party-in-words _ _ _ _ _ _ _ _ (or-none (code-above-23 u.held))
-      (λ l. or-decides (other-parties word g u a l) (other-parties word g u b l))
-      (or-decides (at_most u.held.n a) (or-decides (at_most u.held.n b) (equal a b))) (or-decides itself itself)
-
-  pub complement-in-words : (a : ℕ) → Matches (party_lines word g u (complement_of a))
-      (party_complement_sentences word g u a)
-  complement-in-words a = party-in-words _ _ _ _ _ _ _ _ (or-none (code-above-23 u.held))
-      (other-parties word g u a) (at_most u.held.n a) itself
-
-  module _ (pauli q b : ℕ) where
-    abbrev whole : List Refusal
-    whole = used_arguments_of u (measurement_of pauli q b)
-
-    abbrev arguments : List Refusal
-    arguments = inserted_before 8 (line 19 (crosses word u || outsider (in_party word g) u.held.n q))
-        (with_party g u.held.n whole)
-
-    pub arguments-in-words : Matches arguments (party_argument_sentences word g u pauli q b)
-    arguments-in-words = party-in-words _ _ _ _ _ _ _ _
-        (or-decides (code-above-23 u.held) (or-decides (from 1 b) (or-decides (equal pauli 0) (from 3 pauli))))
-        (other-parties word g u q) (at_most u.held.n q) itself
-
-    -- where these lines pass, those of the whole record do
-    whole-passes : first_fitting arguments ≡ 0 → first_fitting whole ≡ 0
-    whole-passes e =
-        let N : Numbered whole = (lit< tt, (lit< tt, (lit< tt, (lit< tt, (lit< tt, (lit< tt, (lit< tt, tt))))))) in
-        let N6 = test-numbered 6 (ltb 1 g) whole N in
-        let h19 = (before-passes 8 18 _ (with_party g u.held.n whole)
-        (test-numbered 2 (not (eqb u.held.n 64)) (with_test 6 (ltb 1 g) whole) N6) refl).0 e in
-        let h2 = (test-passes 2 (not (eqb u.held.n 64)) (with_test 6 (ltb 1 g) whole) N6 refl).0 h19.0 in
-        ((test-passes 6 (ltb 1 g) whole N refl).0 h2.0).0
-
-    pub measure-in-words : Matches (party_lines word g u (measurement_of pauli q b))
-        (party_measure_sentences word g u pauli q b)
-    measure-in-words = and-line arguments (party_argument_sentences word g u pauli q b) 14 arguments-in-words
-        (λ e. or-none (or-none (or-none (or-none (contradicted u pauli q b (whole-passes e))))))
 
 -- ---- a party's save, return and forget
 module _ (word g : ℕ) (u : UsedRecord) (st : Store) where

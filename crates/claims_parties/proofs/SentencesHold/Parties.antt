@@ -40,14 +40,8 @@ use Rattle.parties.specs.PartySentences.{
   party_named_sentences,
   party_save_sentences,
 }
-use Rattle.parties.proofs.PartyInWords.{
-  complement-in-words,
-  cz-in-words,
-  gate-in-words,
-  measure-in-words,
-  named-in-words,
-  save-in-words,
-}
+use Rattle.parties.proofs.PartyInWords.{named-in-words, save-in-words}
+use Rattle.parties.proofs.PartyCallsInWords.{complement-in-words, cz-in-words, gate-in-words, measure-in-words}
 use Rattle.claims.proofs.NumbersHold.{in_words}
 
 module _ (word g : ℕ) (u : UsedRecord) where
