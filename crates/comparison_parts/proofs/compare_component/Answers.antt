@@ -7,8 +7,6 @@ use Rattle.comparison_parts.proofs.ComponentLaws.{kept-closed, leaves-refused, n
 use Rattle.comparison_parts.specs.internal.Components.{NumberedPair, PartAnswer}
 use Rattle.comparison_parts.proofs.compare_component.Goals as goal
 
--- src/lib.rt:85:8
--- src/lib.rt:86:9
 pub returns-then-spread-component : goal.returns-then-spread-component
 returns-then-spread-component c =
     let a = c.args in record {
@@ -18,31 +16,22 @@ returns-then-spread-component c =
       empty_from = c.requires.component.1;
     }
 
--- src/lib.rt:103:9
--- src/lib.rt:103:9
 pub slice_bounds-compare_listed-end : goal.slice_bounds-compare_listed-end
 slice_bounds-compare_listed-end c =
     sym (part-long _ _ c.vertices-listed.ensures.0 refl)
 
--- src/lib.rt:104:9
--- src/lib.rt:104:9
 pub slice_bounds-compare_listed-end-2 : goal.slice_bounds-compare_listed-end-2
 slice_bounds-compare_listed-end-2 c =
     sym (part-long _ _ c.vertices-listed.ensures.0 refl)
 
--- src/lib.rt:105:9
--- src/lib.rt:105:9
 pub slice_bounds-compare_listed-end-3 : goal.slice_bounds-compare_listed-end-3
 slice_bounds-compare_listed-end-3 c =
     sym (part-long _ _ c.vertices-listed.ensures.0 refl)
 
--- src/lib.rt:106:9
--- src/lib.rt:106:9
 pub slice_bounds-compare_listed-end-4 : goal.slice_bounds-compare_listed-end-4
 slice_bounds-compare_listed-end-4 c =
     sym (part-long _ _ c.vertices-listed.ensures.0 refl)
 
--- src/lib.rt:95:9
 pub compare_listed-answer-requires : goal.compare_listed-answer-requires
 compare_listed-answer-requires c =
     let a = c.args in
@@ -62,7 +51,6 @@ compare_listed-answer-requires c =
       empty_from = c.requires.component.1;
     }
 
--- src/lib.rt:109:9
 pub returns-then-not-answer : goal.returns-then-not-answer
 returns-then-not-answer c =
     let a = c.args in record {
@@ -80,13 +68,11 @@ returns-then-not-answer c =
       empty_from = c.compare_listed-answer.ensures.empty_from_2;
     }
 
--- src/lib.rt:112:9
 pub placed-whole-requires : goal.placed-whole-requires
 placed-whole-requires c =
     let N = c.vertices-listed.ensures in
     (N.0, N.1.below, N.1.rising)
 
--- src/lib.rt:71:1
 pub returns : goal.returns
 returns c =
     let a = c.args in record {

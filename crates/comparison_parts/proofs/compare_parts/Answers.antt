@@ -12,8 +12,6 @@ use Rattle.comparison_parts.proofs.Parting.{all-answer, next-component, none-ans
 use Rattle.comparison_parts.specs.internal.Components.{ComponentAnswer, record_held}
 use Rattle.comparison_parts.proofs.compare_parts.Goals as goal
 
--- src/lib.rt:131:9
--- src/lib.rt:132:5
 pub loop-rest-init : goal.loop-rest-init
 loop-rest-init c =
     let a = c.args in (
@@ -22,8 +20,6 @@ loop-rest-init c =
       empty-rows,
     )
 
--- src/lib.rt:133:13
--- src/lib.rt:134:13
 pub part-component-requires : goal.part-component-requires
 part-component-requires c =
     let a = c.args in
@@ -37,7 +33,6 @@ part-component-requires c =
       simple = subst (λ m. Simple m (graph_in a.neighbours.now)) (sym F.neighbours-long) F.simple;
     }
 
--- src/lib.rt:135:13
 pub compare_component-whole-requires : goal.compare_component-whole-requires
 compare_component-whole-requires c =
     let a = c.args in record {
@@ -50,7 +45,6 @@ compare_component-whole-requires c =
       );
     }
 
--- src/lib.rt:138:13
 pub returns-then-not-whole : goal.returns-then-not-whole
 returns-then-not-whole c =
     let a = c.args in
@@ -62,7 +56,6 @@ returns-then-not-whole c =
     c.compare_component-whole.result.choice) (not-true _ c.if-not-whole.true)
     c.compare_component-whole.ensures.component_answer)
 
--- src/lib.rt:132:5
 pub loop-rest-smaller : goal.loop-rest-smaller
 loop-rest-smaller c =
     let a = c.args in
@@ -70,7 +63,6 @@ loop-rest-smaller c =
     c.loop-rest.rest c.loop-rest.choice c.loop-rest.invariant.0
     c.loop-rest-test.true _ c.smallest-q.ensures.0 _ c.part-component.ensures
 
--- src/lib.rt:132:5
 pub loop-rest-preserved : goal.loop-rest-preserved
 loop-rest-preserved c =
     let a = c.args in (
@@ -84,7 +76,6 @@ loop-rest-preserved c =
       c.compare_component-whole.ensures.empty_from,
     )
 
--- src/lib.rt:118:1
 pub returns : goal.returns
 returns c =
     let a = c.args in

@@ -24,7 +24,6 @@ too_large-requires c =
       );
     }
 
--- src/lib.rt:89:9
 pub returns-then-too_large : goal.returns-then-too_large
 returns-then-too_large c =
     let a = c.args in
@@ -34,7 +33,6 @@ returns-then-too_large c =
     c.requires.accepted_record_2.neighbours-length c.too_large.ensures c.if-too_large.true) R R₂ H H₂ a.choice.now
     a.list.now a.count.now
 
--- src/lib.rt:91:9
 pub compare_parts-least-requires : goal.compare_parts-least-requires
 compare_parts-least-requires c =
     let a = c.args in (
@@ -43,7 +41,6 @@ compare_parts-least-requires c =
           a.codes2.now c.requires.accepted_record c.requires.accepted_record_2,
     )
 
--- src/lib.rt:93:9
 pub returns-then-not-least : goal.returns-then-not-least
 returns-then-not-least c =
     let a = c.args in
@@ -55,14 +52,10 @@ returns-then-not-least c =
     c.compare_parts-least.result.found c.compare_parts-least.result.choice c.compare_parts-least.ensures R R₂ H H₂
     a.choice.now a.list.now a.count.now (not-true _ c.if-not-least.true)
 
--- src/lib.rt:96:5
--- src/lib.rt:98:70
--- src/lib.rt:98:70
 pub slice_bounds-induced_image-end : goal.slice_bounds-induced_image-end
 slice_bounds-induced_image-end c =
     sym (part-long _ _ c.requires.accepted_record.upto refl)
 
--- src/lib.rt:98:9
 pub induced_image-answer-requires : goal.induced_image-answer-requires
 induced_image-answer-requires c =
     let a = c.args in
@@ -82,15 +75,11 @@ induced_image-answer-requires c =
       );
     }
 
--- src/lib.rt:100:5
 pub copy_list-requires : goal.copy_list-requires
 copy_list-requires c =
     let I = c.induced_image-answer.ensures in
     (I.room, subst (λ k. c.induced_image-answer.result.count ≤ k) (sym c.requires.choice_len.1) I.room)
 
--- src/lib.rt:70:1
--- src/lib.rt:70:1
--- src/lib.rt:70:1
 pub returns : goal.returns
 returns c =
     let a = c.args in

@@ -7,7 +7,6 @@ use Rattle.comparison_parts.specs.internal.Listed.{part_codes, part_words}
 use Rattle.comparison_parts.proofs.PartBuffers.{first-connected, first-sound, part-answered, second-sound}
 use Rattle.comparison_parts.proofs.component.compare_listed.Goals as goal
 
--- src/lib.rt:47:5
 pub extract-requires : goal.extract-requires
 extract-requires c =
     let G = c.requires.numbered_pair in
@@ -20,7 +19,6 @@ extract-requires c =
       );
     }
 
--- src/lib.rt:48:5
 pub extract-requires-2 : goal.extract-requires-2
 extract-requires-2 c =
     let G = c.requires.numbered_pair in
@@ -33,7 +31,6 @@ extract-requires-2 c =
       );
     }
 
--- src/lib.rt:49:5
 pub search_records-requires : goal.search_records-requires
 search_records-requires c =
     let a = c.args in
@@ -55,11 +52,6 @@ search_records-requires c =
       empty_from = c.requires.empty_from;
     }
 
--- src/lib.rt:27:1
--- src/lib.rt:27:1
--- src/lib.rt:27:1
--- src/lib.rt:27:1
--- src/lib.rt:27:1
 pub returns : goal.returns
 returns c =
     let a = c.args in

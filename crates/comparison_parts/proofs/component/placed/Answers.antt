@@ -4,23 +4,15 @@ use native.Mathlib.Omega.{arith}
 use Rattle.comparison_parts.proofs.Placing.{placing-end, placing-start, placing-step}
 use Rattle.comparison_parts.proofs.component.placed.Goals as goal
 
--- src/lib.rt:61:5
 pub loop-i-init : goal.loop-i-init
 loop-i-init c = (zero-le, placing-start c.args.at c.args.chosen c.args.choice c.well_formed.1.1.1.0.1.0.1)
 
--- src/lib.rt:62:17
--- src/lib.rt:62:17
--- src/lib.rt:63:20
--- src/lib.rt:63:9
 pub bounds-whole-v : goal.bounds-whole-v
 bounds-whole-v c = c.requires.1 c.loop-i.i c.loop-i-test.true
 
--- src/lib.rt:64:9
--- src/lib.rt:61:5
 pub loop-i-smaller : goal.loop-i-smaller
 loop-i-smaller c = omega arith
 
--- src/lib.rt:61:5
 pub loop-i-preserved : goal.loop-i-preserved
 loop-i-preserved c = (
   omega arith,
@@ -28,7 +20,6 @@ loop-i-preserved c = (
       c.loop-i.i c.requires.2 c.requires.1 c.loop-i-test.true c.loop-i.invariant.1,
 )
 
--- src/lib.rt:53:1
 pub returns : goal.returns
 returns c =
     placing-end c.args.at c.args.chosen c.args.choice c.loop-i.whole c.args.k c.loop-i.i

@@ -4,20 +4,12 @@ use native.Mathlib.Omega.{arith}
 use Rattle.comparison_parts.proofs.Listing.{compressed-all, compressed-more, compressed-none}
 use Rattle.comparison_parts.proofs.part_records.compress.Goals as goal
 
--- src/lib.rt:44:5
 pub loop-i-init : goal.loop-i-init
 loop-i-init c = (zero-le, compressed-none c.args.at c.args.w)
 
--- src/lib.rt:45:17
--- src/lib.rt:45:17
--- src/lib.rt:46:36
 pub has-requires : goal.has-requires
 has-requires c = c.requires.1 c.loop-i.i c.loop-i-test.true
 
--- src/lib.rt:46:9
--- src/lib.rt:47:9
--- src/lib.rt:44:5
--- src/lib.rt:44:5
 pub loop-i-preserved : goal.loop-i-preserved
 loop-i-preserved c = (
   omega arith,
@@ -25,7 +17,6 @@ loop-i-preserved c = (
       c.loop-i.invariant.1 c.has.ensures c.flip_where-bits.ensures,
 )
 
--- src/lib.rt:38:1
 pub returns : goal.returns
 returns c =
     compressed-all c.args.at c.args.w c.args.k c.loop-i.bits c.loop-i.i

@@ -7,23 +7,17 @@ use Rattle.comparison_parts.proofs.Listing.{Listing, listing-end, listing_start,
 use borrow.Author.Rules.{rules}
 use Rattle.comparison_parts.proofs.part_records.vertices.Goals as goal
 
--- src/lib.rt:28:5
 pub loop-rest-init : goal.loop-rest-init
 loop-rest-init c = listing_start c.args.component _ refl c.ranges.component.fits
 
--- src/lib.rt:29:13
--- src/lib.rt:30:9
--- src/lib.rt:30:9
 pub overflow_cast-at : goal.overflow_cast-at
 overflow_cast-at c = let few = c.smallest-q.ensures.1 in search rules
 
--- src/lib.rt:30:9
 pub bounds-at-k : goal.bounds-at-k
 bounds-at-k c =
     room c.args.component c.loop-rest.at c.loop-rest.k c.loop-rest.rest c.loop-rest.invariant
     c.loop-rest-test.true _ c.smallest-q.ensures.0
 
--- src/lib.rt:31:9
 pub overflow_add-k : goal.overflow_add-k
 overflow_add-k c =
     omega (
@@ -32,26 +26,22 @@ overflow_add-k c =
           c.loop-rest-test.true _ c.smallest-q.ensures.0,
     )
 
--- src/lib.rt:32:9
 pub flip-rest-requires : goal.flip-rest-requires
 flip-rest-requires c =
     place-below c.args.component c.loop-rest.at c.loop-rest.k c.loop-rest.rest c.loop-rest.invariant
     c.loop-rest-test.true _ c.smallest-q.ensures.0
 
--- src/lib.rt:28:5
 pub loop-rest-smaller : goal.loop-rest-smaller
 loop-rest-smaller c =
     subst (λ v. v < c.loop-rest.rest) (sym c.flip-rest.ensures)
     (flip-less c.loop-rest.rest _ (place-taken c.args.component c.loop-rest.at c.loop-rest.k c.loop-rest.rest
     c.loop-rest.invariant c.loop-rest-test.true _ c.smallest-q.ensures.0))
 
--- src/lib.rt:28:5
 pub loop-rest-preserved : goal.loop-rest-preserved
 loop-rest-preserved c =
     subst (Listing c.args.component _ _) (sym c.flip-rest.ensures)
     (listing_step c.args.component c.loop-rest.at c.loop-rest.k c.loop-rest.rest c.loop-rest.invariant
     c.loop-rest-test.true _ c.smallest-q.ensures.0)
 
--- src/lib.rt:21:1
 pub returns : goal.returns
 returns c = listing-end c.args.component _ _ _ c.loop-rest.invariant c.loop-rest-test.false

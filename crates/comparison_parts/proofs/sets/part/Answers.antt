@@ -6,31 +6,24 @@ use Rattle.record.specs.NeighbourWords.{graph_in}
 use Rattle.comparison_parts.proofs.Spreading.{grow-less, grow-more, grow-start, grown}
 use Rattle.comparison_parts.proofs.sets.part.Goals as goal
 
--- src/lib.rt:37:9
--- src/lib.rt:38:9
--- src/lib.rt:39:5
 pub loop-next-init : goal.loop-next-init
 loop-next-init c =
     let nb = c.args.neighbours.now in
     grow-start (length nb) (graph_in nb) c.requires.simple c.args.q c.requires.neighbours_len_bound.1 _ _ c.single-reached.ensures
     c.spread-next.ensures
 
--- src/lib.rt:41:9
--- src/lib.rt:39:5
 pub loop-next-smaller : goal.loop-next-smaller
 loop-next-smaller c =
     let nb = c.args.neighbours.now in
     grow-less (length nb) (graph_in nb) c.requires.simple c.args.q c.requires.neighbours_len_bound.1 _ _ c.loop-next.invariant
     c.loop-next-test.true
 
--- src/lib.rt:39:5
 pub loop-next-preserved : goal.loop-next-preserved
 loop-next-preserved c =
     let nb = c.args.neighbours.now in
     grow-more (length nb) (graph_in nb) c.requires.simple c.args.q c.requires.neighbours_len_bound.1 _ _ c.loop-next.invariant _
     c.spread-next-in-loop-next.ensures
 
--- src/lib.rt:32:1
 pub returns : goal.returns
 returns c =
     let nb = c.args.neighbours.now in

@@ -6,16 +6,9 @@ use Rattle.comparison_parts.proofs.Spreading.{passed-all, passed-joined, passed-
 use Rattle.comparison_parts.proofs.sets.spread.Goals as goal
 use Rattle.comparison_parts.proofs.sets.spread.Goals.{else-has, then-has}
 
--- src/lib.rt:22:5
 pub loop-i-init : goal.loop-i-init
 loop-i-init c = (zero-le, passed_none c.args.neighbours.now c.args.marked)
 
--- src/lib.rt:23:12
--- src/lib.rt:24:33
--- src/lib.rt:24:33
--- src/lib.rt:26:9
--- src/lib.rt:22:5
--- src/lib.rt:22:5
 pub loop-i-preserved : goal.loop-i-preserved
 loop-i-preserved c =
     let a = c.args in
@@ -29,7 +22,6 @@ loop-i-preserved c =
       ],
     )
 
--- src/lib.rt:15:1
 pub returns : goal.returns
 returns c =
     passed-all c.args.neighbours.now c.args.marked

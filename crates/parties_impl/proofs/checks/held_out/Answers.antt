@@ -23,13 +23,6 @@ AfterReachesOut = lts.After-reaches_out tie.the-claims reads.Pre reads.Post goal
 pub loop-i-init : goal.loop-i-init
 loop-i-init c = (omega arith, none_yet _)
 
--- TODO gone Need-slice-bounds-reaches-out-end
--- part-reaches-out-end : tie.Need-slice-bounds-reaches-out-end invariant-loop decreases-loop
--- part-reaches-out-end c =
---     let I = c.before in
---     let S = I.before.before.before.before in
---     omega (arith, I.loop-test.true, S.requires.1)
-
 pub reaches_out-requires : goal.reaches_out-requires
 reaches_out-requires c =
     part_count c.loop-i.i 64 c.args.neighbours.now (omega (arith, c.loop-i-test.true, c.requires.neighbours_len))

@@ -35,33 +35,6 @@ returns-then-party-gt1 c =
     (sym c.other_count.ensures ∙ c.if-other_count.false) (sym c.wrong_lengths.ensures ∙ c.if-wrong_lengths.false)
     c.if-party-gt1.true
 
--- TODO gone Need-slice-bounds-places-refusal-end
--- part-places-refusal-end : tie.Need-slice-bounds-places-refusal-end
--- part-places-refusal-end c =
---     let E = c.before in
---     let L = E.before in
---     let W = L.before in
---     let S = W.before.before.before.before.before.before in
---     (parts-inside S.args.party (lent S) (sym W.wrong-lengths.ensures ∙ L.if2.false) E.if3.false).0
-
--- TODO gone Need-slice-bounds-places-refusal-end-2
--- part-places-refusal-end-2 : tie.Need-slice-bounds-places-refusal-end-2
--- part-places-refusal-end-2 c =
---     let E = c.before.before in
---     let L = E.before in
---     let W = L.before in
---     let S = W.before.before.before.before.before.before in
---     (parts-inside S.args.party (lent S) (sym W.wrong-lengths.ensures ∙ L.if2.false) E.if3.false).1
-
--- TODO gone Need-slice-bounds-places-refusal-end-3
--- part-places-refusal-end-3 : tie.Need-slice-bounds-places-refusal-end-3
--- part-places-refusal-end-3 c =
---     let E = c.before.before.before in
---     let L = E.before in
---     let W = L.before in
---     let S = W.before.before.before.before.before.before in
---     (parts-inside S.args.party (lent S) (sym W.wrong-lengths.ensures ∙ L.if2.false) E.if3.false).2
-
 pub places_refusal-requires : goal.places_refusal-requires
 places_refusal-requires c =
     let S = c.before.before.before.before.before.before.before.before.before.before.before.before.before in let whole = places-fit S.args.party (lent S) (sym c.other_count.ensures ∙ c.if-other_count.false)

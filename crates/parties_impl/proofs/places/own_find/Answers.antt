@@ -7,10 +7,6 @@ use Rattle.store.specs.Places.{place_of}
 use Rattle.store_impl.proofs.Parts.{from_place}
 use Rattle.parties_impl.proofs.places.own_find.Goals as goal
 
--- TODO gone Need-slice-bounds-find-end
--- part-find-end : tie.Need-slice-bounds-find-end
--- part-find-end c = omega (arith, c.before.requires.0, c.before.requires.1)
-
 pub returns : goal.returns
 returns c =
     let a = c.args in

@@ -7,10 +7,6 @@ use Rattle.store.specs.Kept.{save_place}
 use Rattle.store_impl.proofs.Parts.{from_place}
 use Rattle.parties_impl.proofs.places.own_place_for.Goals as goal
 
--- TODO gone Need-slice-bounds-place-for-end
--- part-place-for-end : tie.Need-slice-bounds-place-for-end
--- part-place-for-end c = omega (arith, c.before.requires.0, c.before.requires.1)
-
 pub returns : goal.returns
 returns c =
     let a = c.args in

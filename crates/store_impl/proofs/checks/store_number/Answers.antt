@@ -40,28 +40,8 @@ offset_bounds-neighbours-at c = omega (arith, c.requires.k_bound.0)
 pub slice_bounds-held_number-count : goal.slice_bounds-held_number-count
 slice_bounds-held_number-count c = omega arith
 
--- TODO gone Need-slice-bounds-held-number-start
--- part-held-number-start : tie.Need-slice-bounds-held-number-start invariant-loop decreases-loop
--- part-held-number-start c = omega arith
-
--- TODO gone Need-slice-bounds-held-number-end
--- part-held-number-end : tie.Need-slice-bounds-held-number-end invariant-loop decreases-loop
--- part-held-number-end c =
---     let S = c.before.before.before.before.before.before.before in
---     place_inside _ _ S.args.neighbours.now c.before.before.loop-test.true S.requires.1.0
-
 pub slice_bounds-held_number-count-in-loop-i : goal.slice_bounds-held_number-count-in-loop-i
 slice_bounds-held_number-count-in-loop-i c = omega arith
-
--- TODO gone Need-slice-bounds-held-number-start-2
--- part-held-number-start-2 : tie.Need-slice-bounds-held-number-start-2 invariant-loop decreases-loop
--- part-held-number-start-2 c = omega arith
-
--- TODO gone Need-slice-bounds-held-number-end-2
--- part-held-number-end-2 : tie.Need-slice-bounds-held-number-end-2 invariant-loop decreases-loop
--- part-held-number-end-2 c =
---     let S = c.before.before.before.before.before.before.before.before in
---     place_inside _ _ S.args.codes.now c.before.before.before.loop-test.true S.requires.1.1
 
 pub held_number-here-requires : goal.held_number-here-requires
 held_number-here-requires c =
