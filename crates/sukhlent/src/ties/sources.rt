@@ -3,7 +3,7 @@ ghost use Rattle.claims_parties.specs.Sentences.Parties.{GroupObserveSays, Group
 ghost use Rattle.claims.specs.Sources.{ObserveSays, RenewSays};
 ghost use Rattle.operations.specs.Used.{used_record};
 
-use crate::source::{
+use crate::sources::{
     sukhlent_group_observe, sukhlent_group_renew, sukhlent_observe, sukhlent_renew,
 };
 

@@ -1,7 +1,7 @@
 // The orbit of a graph: what the demands say of it.
 ghost use Rattle.claims.specs.Sentences.Orbits.{OrbitSays};
 
-use crate::orbits::sukhlent_orbit;
+use crate::orbit_lists::sukhlent_orbit;
 
 pub fn orbit_says(n: u64, neighbours: &[u64], list: &mut [u16], count: &mut u64) -> u8
     ensures { OrbitSays

@@ -1,6 +1,6 @@
 -- `group_observe_says` meets its contract.
 use Rattle.claims_parties.proofs.SourceSentences.{group-observe-says}
-use Rattle.sukhlent.proofs.ties.source.group_observe_says.Goals as goal
+use Rattle.sukhlent.proofs.ties.sources.group_observe_says.Goals as goal
 
 pub returns : goal.returns
 returns c =

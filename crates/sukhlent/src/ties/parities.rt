@@ -2,7 +2,7 @@
 ghost use Rattle.claims_parity.specs.Parities.{MeasureRowSays};
 ghost use Rattle.operations.specs.Used.{used_record};
 
-use crate::parity::sukhlent_measure_row;
+use crate::parities::sukhlent_measure_row;
 
 pub fn measure_row_says(
     n: u64,
