@@ -172,17 +172,17 @@ typedef uint64_t sukhlent_length;
  * Threads: no call keeps anything between calls. Two threads may call at once, each with buffers
  *   of its own for what is not const.
  * Stack: no call uses the heap. Of the stack, compare, equivalent, compare_records and
- *   equivalent_records take at most these bytes, and every other call at most 6,000 (measured, not
+ *   equivalent_records take at most these bytes, and every other call at most 6,500 (measured, not
  *   proved: docs/PROCESSORS.md):
- *   x86-64        19,000
- *   x86-64-v3     19,000
- *   aarch64       18,500
- *   riscv64       19,500
- *   armv7         19,000
- *   wasm32        18,000
- *   cortex-m4     19,000
- *   riscv64-none  19,500
- *   aarch64-none  19,500 */
+ *   x86-64        17,000
+ *   x86-64-v3     17,000
+ *   aarch64       17,000
+ *   riscv64       17,500
+ *   armv7         17,000
+ *   wasm32        16,500
+ *   cortex-m4     17,000
+ *   riscv64-none  17,500
+ *   aarch64-none  17,500 */
 
 /* What a refusal number means, in words. */
 static inline const char *sukhlent_refusal_text(uint8_t number)
