@@ -1,5 +1,4 @@
 -- `reaches` meets its contract: line 6: whether some number of the buffer is b or above.
-use Prim.Native.Nat.{◌-◌}
 use Rattle.buffers.proofs.Reaching.{some-all, some-here, some-yet}
 use Rattle.buffers.proofs.reaches.Goals as goal
 

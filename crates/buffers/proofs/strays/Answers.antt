@@ -1,6 +1,6 @@
 -- `strays` meets its contract: line 5: whether some word of the buffer has a bit at or above n.
 use mathlib.Core.Path.{◌∙◌}
-use Prim.Native.Nat.{◌-◌, ◌^◌}
+use Prim.Native.Nat.{◌^◌}
 use lib.Dec.{leb}
 use Rattle.buffers.proofs.Reaching.{some-all, some-here-or, some-yet-or}
 use Rattle.buffers.proofs.strays.Goals as goal

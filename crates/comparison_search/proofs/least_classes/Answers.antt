@@ -1,7 +1,7 @@
 -- `least_classes` meets its contract: for each qubit in turn the first class that the equations allow.
 use mathlib.Core.Bool.{false, true}
 use mathlib.Core.Path.{refl}
-use Prim.Native.Nat.{◌-◌, ◌<◌}
+use Prim.Native.Nat.{◌<◌}
 use native.Mathlib.Omega.{arith}
 use lib.ListN.{length}
 use borrow.Author.Rules.{rules}

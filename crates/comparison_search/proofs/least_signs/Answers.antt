@@ -1,5 +1,5 @@
 -- `least_signs` meets its contract: for each qubit in turn the first signs that the equations allow, the classes kept.
-use Prim.Native.Nat.{◌-◌, ◌<◌}
+use Prim.Native.Nat.{◌<◌}
 use native.Mathlib.Omega.{arith}
 use lib.ListN.{length}
 use borrow.Author.Rules.{rules}

@@ -1,7 +1,5 @@
 -- `cut_rank` meets its contract: the rank modulo 2 of the edges between the sides: a column that is no sum of earlier
 -- ones leaves a remainder, which joins the basis.
-use mathlib.Core.Logic.{⊎_elim}
-use Prim.Native.Nat.{◌-◌}
 use native.Mathlib.Omega.{arith}
 use borrow.Author.Rules.{rules}
 use Rattle.record.specs.NeighbourWords.{graph_in}

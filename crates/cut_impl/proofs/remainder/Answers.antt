@@ -1,6 +1,5 @@
 -- `remainder` meets its contract: w with words of the basis added to it, as long as its smallest set bit is that of one
 -- of them.
-use Prim.Native.Nat.{◌-◌}
 use Rattle.cut_impl.proofs.Remainders.{all-reduced, reduced-no-more, reduced-once, reducing-start, smallest-below, smallest-rises}
 use Rattle.cut_impl.proofs.remainder.Goals as goal
 

@@ -1,6 +1,6 @@
 -- `graph_element` meets its contract: the element of a graph's group with these x bits.
 use mathlib.Core.Path.{◌∙◌, subst, sym}
-use Prim.Native.Nat.{◌+◌, ◌-◌}
+use Prim.Native.Nat.{◌+◌}
 use native.Mathlib.Omega.{arith}
 use Rattle.expectation_impl.proofs.Elements.{PartElement, element-off, element-on, no-element, whole-element}
 use Rattle.expectation_impl.proofs.graph_element.Goals as goal

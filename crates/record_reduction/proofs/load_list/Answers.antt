@@ -1,6 +1,5 @@
 -- `load_list` meets its contract: the rows of a lent list, with a word for their signs.
 use mathlib.Core.Path.{refl}
-use Prim.Native.Nat.{◌-◌}
 use Rattle.record_reduction.proofs.Loading.{load-end, load-start, load_step}
 use Rattle.record_reduction.proofs.load_list.Goals as goal
 

@@ -11,7 +11,7 @@ use lib.Bits.{and_mask, bit_and, bit_xor, mask_lt}
 use lib.Count.{ones, count_trailing_zeros}
 use lib.Dec.{eqb, ltb}
 use lib.ListN.{get_or, length, set}
-use borrow.Author.Tests.{not-false, not-true}
+use borrow.Author.Tests.{not-true}
 use Rattle.pauli.proofs.PhaseLaws.{minus-real}
 use Rattle.pauli.specs.Pauli.{Pauli, anticommute}
 use Rattle.record.specs.Lent.{code_numbers, neighbour_words}

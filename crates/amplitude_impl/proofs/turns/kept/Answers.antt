@@ -1,7 +1,6 @@
 -- `kept` meets its contract: the vertices without a Hadamard.
 use mathlib.Core.Bool.{not}
 use mathlib.Core.Path.{ap}
-use Prim.Native.Nat.{◌-◌}
 use native.Mathlib.Omega.{arith}
 use Rattle.clifford.specs.Clifford.{bit_c}
 use Rattle.clifford.specs.Vectors.{codes_of}

@@ -1,7 +1,6 @@
 -- `supports` meets its contract: whether a word is supported: each equation holds.
 use mathlib.Core.Bool.{true}
 use mathlib.Core.Path.{refl}
-use Prim.Native.Nat.{◌-◌}
 use native.Mathlib.Omega.{arith}
 use Rattle.amplitude.specs.internal.KeptTurns.{fits_at}
 use Rattle.operations.proofs.UnrefusedRecords.{unrefused-codes, unrefused-place, unrefused-short}

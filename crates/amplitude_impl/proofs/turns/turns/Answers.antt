@@ -1,6 +1,5 @@
 -- `turns` meets its contract: the turns of a word, from 0 to 3: those of its vertices without a Hadamard.
 use mathlib.Core.Path.{refl}
-use Prim.Native.Nat.{◌-◌}
 use native.Mathlib.Omega.{arith}
 use Rattle.amplitude.specs.internal.KeptTurns.{kept_turns}
 use Rattle.operations.proofs.UnrefusedRecords.{unrefused-codes, unrefused-place, unrefused-short}

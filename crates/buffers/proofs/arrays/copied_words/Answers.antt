@@ -1,6 +1,6 @@
 -- `copied_words` meets its contract: lent words in an array; 0 past their end.
 use mathlib.Core.Path.{refl}
-use Prim.Native.Nat.{◌-◌, zero-le}
+use Prim.Native.Nat.{zero-le}
 use native.Mathlib.Omega.{arith}
 use Rattle.buffers.proofs.Mapping.{CopyOf, copied_all, mapped-start, mapped-store, zeros, zeros-long}
 use Rattle.buffers.proofs.arrays.copied_words.Goals as goal

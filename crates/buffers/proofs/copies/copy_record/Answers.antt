@@ -1,6 +1,5 @@
 -- `copy_record` meets its contract: copies a record into two buffers with as many places.
 use mathlib.Core.Path.{refl, sym, ◌∙◌}
-use Prim.Native.Nat.{◌-◌}
 use native.Mathlib.Omega.{arith}
 use Rattle.buffers.proofs.Filling.{fill_end, fill_start, fill_step}
 use Rattle.buffers.proofs.Tabulate.{tabulate-is}

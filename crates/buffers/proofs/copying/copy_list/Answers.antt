@@ -1,5 +1,4 @@
 -- `copy_list` meets its contract: the first `count` bytes of the array; the places past them keep theirs.
-use Prim.Native.Nat.{◌-◌}
 use native.Mathlib.Omega.{arith}
 use Rattle.buffers.proofs.CopiedLists.{all-copied, none-copied, one-copied}
 use Rattle.buffers.proofs.copying.copy_list.Goals as goal

@@ -1,6 +1,5 @@
 -- `copy_words` meets its contract: a word of the array for every place of the buffer.
 use mathlib.Core.Path.{refl}
-use Prim.Native.Nat.{◌-◌}
 use native.Mathlib.Omega.{arith}
 use Rattle.buffers.proofs.Filling.{fill_end, fill_start, fill_step}
 use Rattle.buffers.proofs.copying.copy_words.Goals as goal

@@ -1,6 +1,6 @@
 -- `chosen_product` meets its contract: the product of the chosen rows, in index order, its phase from 0 to 3.
 use mathlib.Core.Path.{◌∙◌, subst, sym}
-use Prim.Native.Nat.{◌+◌, ◌-◌}
+use Prim.Native.Nat.{◌+◌}
 use native.Mathlib.Omega.{arith}
 use Rattle.stabilizer.specs.Lists.{GeneratorList}
 use Rattle.call_lists.proofs.PartProducts.{PartProduct, no_part, part_off, part-on, row_read, whole-product}

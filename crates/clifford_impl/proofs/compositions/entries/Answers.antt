@@ -1,6 +1,5 @@
 -- `entries` meets its contract: 24 entries of a table, from a place on.
 use mathlib.Core.Path.{refl}
-use Prim.Native.Nat.{◌-◌}
 use native.Mathlib.Omega.{arith}
 use Rattle.buffers.proofs.Filling.{all-filled, fill_start, fill_step}
 use Rattle.clifford_impl.proofs.compositions.entries.Goals as goal

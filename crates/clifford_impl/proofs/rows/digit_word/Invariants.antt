@@ -1,5 +1,4 @@
 -- What the loops of `digit_word` keep.
-use Prim.Native.Nat.{◌-◌}
 use Rattle.clifford_impl.proofs.RowDigits.{DigitsFrom}
 use Rattle.clifford_impl.proofs.rows.digit_word.Given as goal
 

@@ -1,5 +1,5 @@
 -- `placed` meets its contract: the choice with the codes of a part at its vertices.
-use Prim.Native.Nat.{◌-◌, zero-le}
+use Prim.Native.Nat.{zero-le}
 use native.Mathlib.Omega.{arith}
 use Rattle.comparison_parts.proofs.Placing.{placing-end, placing-start, placing-step}
 use Rattle.comparison_parts.proofs.component.placed.Goals as goal

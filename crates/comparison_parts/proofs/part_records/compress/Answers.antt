@@ -1,5 +1,5 @@
 -- `compress` meets its contract: the bits of a word at the numbered vertices.
-use Prim.Native.Nat.{◌-◌, zero-le}
+use Prim.Native.Nat.{zero-le}
 use native.Mathlib.Omega.{arith}
 use Rattle.comparison_parts.proofs.Listing.{compressed-all, compressed-more, compressed-none}
 use Rattle.comparison_parts.proofs.part_records.compress.Goals as goal

@@ -1,6 +1,6 @@
 -- `extract` meets its contract: the record of the part, with a place of the answer for each of its vertices.
 use mathlib.Core.Path.{refl, subst, sym, ◌∙◌}
-use Prim.Native.Nat.{◌-◌, ◌<◌}
+use Prim.Native.Nat.{◌<◌}
 use native.Mathlib.Omega.{arith}
 use lib.ListN.{get_or}
 use Rattle.buffers.proofs.Filling.{fill_end, fill_start, fill_step}

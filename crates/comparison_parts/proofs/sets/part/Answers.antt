@@ -1,6 +1,5 @@
 -- `part` meets its contract: the connected part of vertex q: the vertex, its neighbours, theirs and so on, until none
 -- is new.
-use Prim.Native.Nat.{◌-◌}
 use lib.ListN.{length}
 use Rattle.record.specs.NeighbourWords.{graph_in}
 use Rattle.comparison_parts.proofs.Spreading.{grow-less, grow-more, grow-start, grown}

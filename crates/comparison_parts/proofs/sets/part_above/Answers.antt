@@ -1,8 +1,8 @@
 -- `part_above` meets its contract: whether some part has more than 20 vertices.
 use mathlib.Core.Path.{subst, sym, ◌∙◌}
-use Prim.Native.Nat.{◌+◌, ◌-◌}
+use Prim.Native.Nat.{◌+◌}
 use lib.ListN.{length}
-use borrow.Author.Tests.{le-ltb, lt-ltb, not-false}
+use borrow.Author.Tests.{le-ltb, lt-ltb}
 use Rattle.record.specs.NeighbourWords.{graph_in}
 use Rattle.comparison.specs.Parts.{part_above}
 use Rattle.stabilizer.proofs.Scanning.{found_at, found_nowhere}

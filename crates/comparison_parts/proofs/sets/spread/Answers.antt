@@ -1,6 +1,6 @@
 -- `spread` meets its contract: the marked vertices and their neighbours.
 use mathlib.Core.Path.{◌∙◌, sym}
-use Prim.Native.Nat.{◌-◌, zero-le}
+use Prim.Native.Nat.{zero-le}
 use native.Mathlib.Omega.{arith}
 use Rattle.comparison_parts.proofs.Spreading.{passed-all, passed-joined, passed-kept, passed_none}
 use Rattle.comparison_parts.proofs.sets.spread.Goals as goal

@@ -1,5 +1,4 @@
 -- `class_words` meets its contract: the words of the classes of a choice.
-use Prim.Native.Nat.{◌-◌}
 use native.Mathlib.Omega.{arith}
 use Rattle.comparison.proofs.PlacedFours.{class-next, no-class-words}
 use Rattle.comparison.proofs.WordsByBits.{all-classes}

@@ -1,5 +1,4 @@
 -- `sign_words` meets its contract: the words of the signs of a choice.
-use Prim.Native.Nat.{◌-◌}
 use native.Mathlib.Omega.{arith}
 use Rattle.comparison.proofs.PlacedFours.{all-sign-words, no-sign-words, sign-next}
 use Rattle.comparison_search.proofs.assignments.sign_words.Goals as goal

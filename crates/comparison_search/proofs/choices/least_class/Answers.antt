@@ -1,6 +1,5 @@
 -- `least_class` meets its contract: the first class at qubit q that the equations allow beside the values held for the
 -- other qubits; 6 if there is none.
-use Prim.Native.Nat.{◌-◌}
 use native.Mathlib.Omega.{arith}
 use borrow.Author.Tests.{not-false, not-true}
 use Rattle.clifford.specs.Vectors.{codes_of}

@@ -1,6 +1,5 @@
 -- `least_sign` meets its contract: the first signs at qubit q that the equations allow beside the values held for the
 -- other qubits; 4 if there are none.
-use Prim.Native.Nat.{◌-◌}
 use borrow.Author.Tests.{not-false, not-true}
 use Rattle.clifford.specs.Vectors.{codes_of}
 use Rattle.comparison.specs.internal.Equations.{assignment_of, sign_assignment, equations_in}

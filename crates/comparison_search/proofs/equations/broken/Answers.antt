@@ -1,7 +1,6 @@
 -- `broken` meets its contract: whether an equation of qubit q fails: one whose last unknown is of qubit q.
 use mathlib.Core.List.{[]}
 use mathlib.Core.Path.{sym}
-use Prim.Native.Nat.{◌-◌}
 use native.Mathlib.Omega.{arith}
 use lib.ListN.{get_or}
 use Rattle.comparison.specs.internal.Equations.{assignment_of, equation_of, equations_in}

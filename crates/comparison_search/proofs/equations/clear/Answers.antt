@@ -1,7 +1,7 @@
 -- `clear` meets its contract: equation i added to those after it, up to an end, that have unknown i.
 use mathlib.Core.List.{[]}
 use mathlib.Core.Path.{ap, subst, sym, ◌∙◌}
-use Prim.Native.Nat.{◌+◌, ◌-◌}
+use Prim.Native.Nat.{◌+◌}
 use native.Mathlib.Omega.{arith}
 use lib.ListN.{get_or}
 use borrow.Author.Rules.{rules}

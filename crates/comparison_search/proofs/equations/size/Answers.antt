@@ -5,7 +5,6 @@ use lib.Count.{leading_le}
 use Rattle.comparison_search.proofs.WordSizes.{size_is}
 use Rattle.comparison_search.proofs.equations.size.Lts as lts
 use Rattle.comparison_search.proofs.equations.size.Reads as reads
-use Rattle.comparison_search.proofs.equations.size.Tie as tie
 use Rattle.comparison_search.proofs.equations.size.Goals as goal
 
 -- where the lemmas below stand

@@ -1,5 +1,5 @@
 -- What the loops of `store` keep.
-use Prim.Native.Nat.{◌≤◌, ◌-◌}
+use Prim.Native.Nat.{◌≤◌}
 use Rattle.comparison.specs.internal.Equations.{Bound, equation_of, equations_in}
 use Rattle.comparison.proofs.Insertion.{Inserting}
 use Rattle.comparison_search.proofs.equations.store.Given as goal

@@ -1,5 +1,5 @@
 -- What the loops of `wipe` keep.
-use Prim.Native.Nat.{◌-◌, ◌≤◌}
+use Prim.Native.Nat.{◌≤◌}
 use Rattle.comparison.specs.internal.Equations.{EmptyFrom, equations_in}
 use Rattle.comparison_search.proofs.equations.wipe.Given as goal
 

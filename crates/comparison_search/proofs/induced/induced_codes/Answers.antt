@@ -1,6 +1,5 @@
 -- `induced_codes` meets its contract: .. at each qubit.
 use mathlib.Core.Path.{refl}
-use Prim.Native.Nat.{◌-◌}
 use native.Mathlib.Omega.{arith}
 use Rattle.buffers.proofs.Filling.{fill_end, fill_start, fill_step}
 use Rattle.comparison.specs.internal.Compared.{induced_code}

@@ -1,6 +1,5 @@
 -- `generators` meets its contract: the generators of a record.
 use mathlib.Core.Path.{◌∙◌}
-use Prim.Native.Nat.{◌-◌}
 use native.Mathlib.Omega.{arith}
 use Rattle.buffers.proofs.Filling.{all-filled, none_filled}
 use Rattle.clifford.specs.Vectors.{codes_of}

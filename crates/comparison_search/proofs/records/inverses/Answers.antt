@@ -1,6 +1,6 @@
 -- `inverses` meets its contract: the codes that undo a record's.
 use mathlib.Core.Path.{refl}
-use Prim.Native.Nat.{◌-◌, ◌<◌}
+use Prim.Native.Nat.{◌<◌}
 use native.Mathlib.Omega.{arith}
 use lib.ListN.{length}
 use Rattle.buffers.proofs.Filling.{all-filled, fill_start, fill_step}

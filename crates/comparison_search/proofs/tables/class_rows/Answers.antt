@@ -1,6 +1,5 @@
 -- `class_rows` meets its contract: the equations of one generator of the first group with all of the second.
 use mathlib.Core.Path.{ap₂, ◌∙◌}
-use Prim.Native.Nat.{◌-◌}
 use Rattle.comparison.specs.internal.Equations.{class_equation, equation_of, equations_in}
 use Rattle.comparison.specs.internal.Setting.{generators_in}
 use Rattle.comparison.proofs.EquationTables.{class-more, class-row}

@@ -1,6 +1,6 @@
 -- `class_table` meets its contract: the class equations put into an empty table.
 use mathlib.Core.Path.{subst}
-use Prim.Native.Nat.{◌-◌, zero-le}
+use Prim.Native.Nat.{zero-le}
 use native.Mathlib.Nat.{le_antisymm}
 use native.Mathlib.Omega.{arith}
 use Rattle.comparison.specs.internal.Equations.{equations_in}

@@ -2,7 +2,7 @@
 -- into the second group up to a sign.
 use mathlib.Core.Bool.{beq, not}
 use mathlib.Core.Path.{ap, subst, sym, ◌∙◌}
-use Prim.Native.Nat.{◌-◌, zero-le}
+use Prim.Native.Nat.{zero-le}
 use native.Mathlib.Nat.{le_antisymm}
 use native.Mathlib.Omega.{arith}
 use lib.ListN.{take}

@@ -1,7 +1,7 @@
 -- `begin` meets its contract: the bits C and D of the codes, and nothing on the list.
 use mathlib.Core.List.{List}
 use mathlib.Core.Path.{refl}
-use Prim.Native.Nat.{◌-◌, ℕ}
+use Prim.Native.Nat.{ℕ}
 use native.Mathlib.Omega.{arith}
 use Rattle.clifford.specs.Clifford.{bit_c, bit_d}
 use Rattle.image_impl.proofs.CodeBits.{begun, bits_none, bits-one}

@@ -1,5 +1,5 @@
 -- `sign_bytes` meets its contract: a sign byte for each vertex.
-use Prim.Native.Nat.{◌-◌, zero-le}
+use Prim.Native.Nat.{zero-le}
 use native.Mathlib.Omega.{arith}
 use Rattle.buffers.proofs.Mapping.{mapped-start, mapped-store}
 use Rattle.image_impl.proofs.SignBytes.{SignAt}

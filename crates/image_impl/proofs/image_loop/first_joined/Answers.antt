@@ -1,6 +1,5 @@
 -- `first_joined` meets its contract: the smallest vertex of the set c that has a neighbour in c; n where there is none.
 use mathlib.Core.Path.{sym, ◌∙◌}
-use Prim.Native.Nat.{◌-◌}
 use Rattle.words.proofs.Searching.{first_found, none_found, none_here, none_yet}
 use Rattle.image_impl.proofs.image_loop.first_joined.Goals as goal
 

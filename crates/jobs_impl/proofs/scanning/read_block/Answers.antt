@@ -1,7 +1,7 @@
 -- `read_block` meets its contract: what is read after a block more.
 use mathlib.Core.Bool.{and-eq-true_iff}
 use mathlib.Core.Path.{◌∙◌, ap, refl}
-use Prim.Native.Nat.{◌-◌, ◌<◌, zero-le}
+use Prim.Native.Nat.{◌<◌, zero-le}
 use native.Mathlib.Omega.{arith}
 use lib.Dec.{ltb}
 use lib.ListN.{set}

@@ -1,6 +1,6 @@
 -- `print_results` meets its contract: prints the names, and the line of each step by what it answered.
 use mathlib.Core.Path.{◌∙◌, refl}
-use Prim.Native.Nat.{◌-◌, zero-le}
+use Prim.Native.Nat.{zero-le}
 use native.Mathlib.Omega.{arith}
 use borrow.Author.Rules.{rules}
 use Rattle.jobs_replies.proofs.Lines.{all_lines, line-fits, no_line, one_line}

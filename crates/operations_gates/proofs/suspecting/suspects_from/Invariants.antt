@@ -1,5 +1,5 @@
 -- What the loops of `suspects_from` keep.
-use Prim.Native.Nat.{◌-◌, ◌≤◌}
+use Prim.Native.Nat.{◌≤◌}
 use lib.ListN.{get_or, length}
 use Rattle.record_reduction.proofs.Pivoting.{NamedFrom}
 use Rattle.operations_gates.specs.internal.Suspects.{suspect}

@@ -1,6 +1,5 @@
 -- `all_pairs_within` meets its contract: the same for every set of up to 6 vertices.
 use mathlib.Core.Path.{refl}
-use Prim.Native.Nat.{◌-◌}
 use native.Mathlib.Omega.{arith}
 use Rattle.buffers.proofs.Filling.{fill_end, fill_start, fill_step}
 use Rattle.orbits.specs.internal.Numbers.{pairs_within}

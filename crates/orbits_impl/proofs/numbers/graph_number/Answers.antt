@@ -1,5 +1,4 @@
 -- `graph_number` meets its contract: the number of a graph.
-use Prim.Native.Nat.{◌-◌}
 use native.Mathlib.Omega.{arith}
 use Rattle.orbits_impl.proofs.PairLoops.{all-numbered, none-numbered, one-numbered, this-pair}
 use Rattle.orbits_impl.proofs.numbers.graph_number.Goals as goal

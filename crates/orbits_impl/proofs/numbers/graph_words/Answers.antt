@@ -1,5 +1,4 @@
 -- `graph_words` meets its contract: the neighbour words of graph g.
-use Prim.Native.Nat.{◌-◌}
 use native.Mathlib.Omega.{arith}
 use Rattle.orbits_impl.proofs.Edges.{all-joined, none-joined, one-joined}
 use Rattle.orbits_impl.proofs.PairLoops.{this-pair}

@@ -1,7 +1,6 @@
 -- `pairs_within` meets its contract: the number of the graph in which each two vertices of a set are joined.
 use mathlib.Core.Bool.{◌&&◌}
 use mathlib.Core.Path.{ap₂}
-use Prim.Native.Nat.{◌-◌}
 use native.Mathlib.Omega.{arith}
 use Rattle.orbits.specs.internal.Numbers.{pairs_within}
 use Rattle.orbits_impl.proofs.PairLoops.{all-numbered, none-numbered, one-numbered, this-pair}

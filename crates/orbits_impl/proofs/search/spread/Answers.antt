@@ -1,6 +1,5 @@
 -- `spread` meets its contract: marks the orbit of graph g in words that are 0.
 use mathlib.Core.Path.{sym, ◌∙◌}
-use Prim.Native.Nat.{◌-◌}
 use native.Mathlib.Nat.{lt_of_lt_of_le}
 use native.Mathlib.Omega.{arith}
 use Rattle.orbits_impl.proofs.Following.{follow-more, follow-spread, follow-start, next_small, none-marked}

@@ -1,7 +1,6 @@
 -- `visit_around` meets its contract: the same of graph g complemented at each vertex: the edges between two neighbours
 -- of it are flipped.
 use mathlib.Core.Path.{subst}
-use Prim.Native.Nat.{◌-◌}
 use native.Mathlib.Nat.{le_antisymm}
 use native.Mathlib.Omega.{arith}
 use Rattle.orbits_impl.proofs.Following.{around-more, around-none, around-number, around-small, word_small}

@@ -1,5 +1,4 @@
 -- `write_marked` meets its contract: all marked numbers, at the start of the list.
-use Prim.Native.Nat.{◌-◌}
 use native.Mathlib.Omega.{arith}
 use Rattle.orbits_impl.proofs.WrittenNumbers.{all-written, none_written, word_room, word-written}
 use Rattle.orbits_impl.proofs.writing.write_marked.Goals as goal

@@ -1,7 +1,7 @@
 -- `change` meets its contract: generator g goes into the others that do not commute with the row, which takes its
 -- place.
 use mathlib.Core.Path.{◌∙◌, ap, subst, sym}
-use Prim.Native.Nat.{◌-◌, ◌<◌}
+use Prim.Native.Nat.{◌<◌}
 use native.Mathlib.Omega.{arith}
 use lib.ListN.{length}
 use Rattle.parity.proofs.ChangedLists.{all_changed, none-changed, one-changed, x-long, z-long}

@@ -3,7 +3,6 @@ use Prim.Native.Nat.{◌-◌}
 use lib.ListN.{length}
 use Rattle.parity.proofs.ChangedLists.{ChangedBelow}
 use Rattle.parity.specs.internal.Lists.{list_in}
-use Rattle.stabilizer.specs.Lists.{rows}
 use Rattle.parity_impl.proofs.generators.change.Given as goal
 
 -- the first j rows are changed

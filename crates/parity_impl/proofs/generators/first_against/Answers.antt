@@ -1,10 +1,5 @@
 -- `first_against` meets its contract: the first generator that does not commute with the row; n where all do.
-use mathlib.Core.List.{List}
-use mathlib.Core.Bool.{Bool}
 use mathlib.Core.Path.{◌∙◌, sym}
-use Prim.Native.Nat.{◌-◌, ℕ}
-use lib.ListN.{get_or}
-use Rattle.pauli.specs.Pauli.{anticommute, i⁰, row}
 use Rattle.words.proofs.Searching.{first_found, none_found, none_here, none_yet}
 use Rattle.parity_impl.proofs.generators.first_against.Goals as goal
 

@@ -2,7 +2,6 @@
 use mathlib.Core.Bool.{◌&&◌, not}
 use mathlib.Core.List.{[]}
 use mathlib.Core.Path.{◌∙◌, ◌≡◌, sym}
-use Prim.Native.Nat.{◌-◌}
 use native.Mathlib.Omega.{arith}
 use lib.Dec.{eqb}
 use Rattle.parties.specs.Masks.{reaches_out}

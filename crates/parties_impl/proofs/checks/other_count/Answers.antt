@@ -1,7 +1,7 @@
 -- `other_count` meets its contract: whether a state held in the party's places has another n than 64.
 use mathlib.Core.Bool.{◌&&◌, not}
 use mathlib.Core.Path.{◌∙◌, ◌≡◌, ap, sym}
-use Prim.Native.Nat.{◌*◌, ◌-◌}
+use Prim.Native.Nat.{◌*◌}
 use native.Mathlib.Omega.{arith}
 use lib.Dec.{eqb}
 use Rattle.parties.proofs.OwnHeads.{own-head}

@@ -2,7 +2,7 @@
 use mathlib.Core.Path.{◌∙◌, sym}
 use Rattle.parties.specs.Masks.{in_party}
 use Rattle.store.specs.Places.{Store}
-use Rattle.parties_impl.proofs.OwnNumbers.{own-2, own-4, own-answer, own-none, parts-inside, places-fit}
+use Rattle.parties_impl.proofs.OwnNumbers.{own-2, own-4, own-answer, own-none, places-fit}
 use Rattle.parties_impl.proofs.checks.own_refusal.Lts as lts
 use Rattle.parties_impl.proofs.checks.own_refusal.Reads as reads
 use Rattle.parties_impl.proofs.checks.own_refusal.Tie as tie

@@ -1,5 +1,4 @@
 -- `crosses` meets its contract: whether a record has an edge between the parties.
-use Prim.Native.Nat.{◌-◌}
 use native.Mathlib.Omega.{arith}
 use Rattle.parties_impl.proofs.Edges.{crossing-all, crossing-here, some-to-none, some-to-one}
 use Rattle.parties_impl.proofs.masks.crosses.Goals as goal

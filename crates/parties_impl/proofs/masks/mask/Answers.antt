@@ -1,6 +1,5 @@
 -- `mask` meets its contract: a record with the vertices outside a word alone in +Z.
 use mathlib.Core.Path.{sym, ◌∙◌}
-use Prim.Native.Nat.{◌-◌}
 use native.Mathlib.Omega.{arith}
 use Rattle.buffers.proofs.Filling.{fill_end, fill_start, fill_step}
 use Rattle.parties_impl.proofs.masks.mask.Goals as goal

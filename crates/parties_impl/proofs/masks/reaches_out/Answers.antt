@@ -1,5 +1,4 @@
 -- `reaches_out` meets its contract: whether some vertex of a record has a neighbour outside a word.
-use Prim.Native.Nat.{◌-◌}
 use native.Mathlib.Omega.{arith}
 use Rattle.parties_impl.proofs.Edges.{out-all, out-here, some-to-none, some-to-one}
 use Rattle.parties_impl.proofs.masks.reaches_out.Goals as goal

@@ -1,7 +1,6 @@
 -- `own_find` meets its contract: the place, of the party's four, that holds a state under the name.
 use mathlib.Core.Path.{◌∙◌, ap, sym}
 use Prim.Native.Nat.{◌*◌}
-use native.Mathlib.Omega.{arith}
 use Rattle.parties.proofs.OwnHeads.{own-heads-of}
 use Rattle.store.specs.Places.{place_of}
 use Rattle.store_impl.proofs.Parts.{from_place}

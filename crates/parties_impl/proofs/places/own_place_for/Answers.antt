@@ -1,7 +1,6 @@
 -- `own_place_for` meets its contract: the place, of the party's four, that a save takes.
 use mathlib.Core.Path.{◌∙◌, ap, sym}
 use Prim.Native.Nat.{◌*◌}
-use native.Mathlib.Omega.{arith}
 use Rattle.parties.proofs.OwnHeads.{own-heads-of}
 use Rattle.store.specs.Kept.{save_place}
 use Rattle.store_impl.proofs.Parts.{from_place}

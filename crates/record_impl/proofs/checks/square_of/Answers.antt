@@ -1,5 +1,4 @@
 -- `square_of` meets its contract: the first n words, copied into a square, and their bits on the diagonal.
-use Prim.Native.Nat.{◌-◌}
 use Rattle.record_impl.proofs.Squares.{copied_all, next_place, own-all, own-none, own-one}
 use Rattle.record_impl.proofs.checks.square_of.Goals as goal
 

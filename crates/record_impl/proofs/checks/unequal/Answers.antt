@@ -1,5 +1,4 @@
 -- `unequal` meets its contract: the columns at which one of the first n words differs from its row.
-use Prim.Native.Nat.{◌-◌}
 use Rattle.words.specs.Bits.{bit}
 use Rattle.record_impl.proofs.Squares.{differ-none, differ-one, differ_at, some-to-all}
 use Rattle.record_impl.proofs.checks.unequal.Goals as goal

@@ -1,6 +1,5 @@
 -- `expand_into` meets its contract: expansion into three lent buffers.
 use mathlib.Core.Path.{◌∙◌}
-use Prim.Native.Nat.{◌-◌}
 use Rattle.record.specs.Lent.{held_rows, LentRecord, lent_record}
 use Rattle.record.proofs.ExpandedBuffers.{all_made, none_made, one-made}
 use Rattle.record.proofs.ExpandedRows.{held-row, held-within}

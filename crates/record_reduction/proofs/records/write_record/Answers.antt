@@ -1,7 +1,7 @@
 -- `write_record` meets its contract: writes the record of rows that have X or Y at their own place and I or Z
 -- elsewhere.
 use mathlib.Core.Path.{◌∙◌, sym}
-use Prim.Native.Nat.{◌-◌, zero-le}
+use Prim.Native.Nat.{zero-le}
 use native.Mathlib.Omega.{arith}
 use Rattle.buffers.proofs.Filling.{fill_end, fill_start, fill_step}
 use Rattle.record_reduction.proofs.Reading.{neighbour-word, vertex-number}

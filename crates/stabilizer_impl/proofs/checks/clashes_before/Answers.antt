@@ -1,5 +1,4 @@
 -- `clashes_before` meets its contract: whether generator i fails to commute with one before it.
-use Prim.Native.Nat.{◌-◌}
 use Rattle.stabilizer.proofs.Pairs.{clashes_with}
 use Rattle.stabilizer.proofs.Scanning.{found_at, found_nowhere, none-at, none-at-first}
 use Rattle.stabilizer_impl.proofs.checks.clashes_before.Goals as goal

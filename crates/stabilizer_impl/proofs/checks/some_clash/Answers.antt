@@ -1,6 +1,5 @@
 -- `some_clash` meets its contract: line 9: two generators do not commute.
 use mathlib.Core.Path.{◌∙◌}
-use Prim.Native.Nat.{◌-◌}
 use Rattle.stabilizer.proofs.Pairs.{clashes_earlier, clashing-words}
 use Rattle.stabilizer.proofs.Scanning.{found_at, found_nowhere, none-at, none-at-first}
 use Rattle.stabilizer_impl.proofs.checks.some_clash.Goals as goal

@@ -1,7 +1,6 @@
 -- `add_to_later` meets its contract: row k added to each later row below n that has bit i in its x word, or in its z
 -- word.
 use mathlib.Core.Path.{refl}
-use Prim.Native.Nat.{◌-◌}
 use native.Mathlib.Omega.{arith}
 use Rattle.stabilizer_impl.proofs.Additions.{adding-end, adding-start, adding-step}
 use Rattle.stabilizer_impl.proofs.independence.add_to_later.Goals as goal

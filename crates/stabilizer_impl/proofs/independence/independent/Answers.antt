@@ -1,5 +1,4 @@
 -- `independent` meets its contract: whether n rows are independent.
-use Prim.Native.Nat.{◌-◌}
 use Rattle.stabilizer.proofs.Pairs.{letters_of}
 use Rattle.stabilizer_impl.proofs.Elimination.{all-pivoted, blank-found, pivoted-next, pivoted-start, place-below}
 use Rattle.stabilizer_impl.proofs.independence.independent.Goals as goal

@@ -1,7 +1,6 @@
 -- `named_twice` meets its contract: whether some place has the name of a place before it.
 use mathlib.Core.Bool.{◌&&◌, not}
 use mathlib.Core.Path.{◌∙◌, ◌≡◌, ap, ap₂, sym}
-use Prim.Native.Nat.{◌-◌}
 use native.Mathlib.Omega.{arith}
 use lib.Dec.{eqb, ltb}
 use Rattle.store.specs.Places.{holds_name, is_held, name_at, place_of}

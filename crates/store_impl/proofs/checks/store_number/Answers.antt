@@ -1,8 +1,7 @@
 -- `store_number` meets its contract: the first number of the records held in the first k places.
-use Prim.Native.Nat.{◌-◌}
 use native.Mathlib.Omega.{arith}
 use Rattle.store.specs.Places.{Store}
-use Rattle.store_impl.proofs.PlaceNumbers.{all-passed, none_passed, place_inside, place-long, place-part, place-passed, place-small}
+use Rattle.store_impl.proofs.PlaceNumbers.{all-passed, none_passed, place-long, place-part, place-passed, place-small}
 use Rattle.store_impl.proofs.checks.store_number.Lts as lts
 use Rattle.store_impl.proofs.checks.store_number.Reads as reads
 use Rattle.store_impl.proofs.checks.store_number.Tie as tie

@@ -1,6 +1,5 @@
 -- `find` meets its contract: the place that holds a record under the name; k where none does.
 use mathlib.Core.Path.{sym, ◌∙◌}
-use Prim.Native.Nat.{◌-◌}
 use native.Mathlib.Omega.{arith}
 use Rattle.store.specs.Places.{has_name}
 use Rattle.words.proofs.Searching.{first_found, none_found, none_here, none_yet}

@@ -1,6 +1,5 @@
 -- `free` meets its contract: the smallest free place; k where all are held.
 use mathlib.Core.Path.{sym, ◌∙◌}
-use Prim.Native.Nat.{◌-◌}
 use native.Mathlib.Omega.{arith}
 use Rattle.words.proofs.Searching.{first_found, none_found, none_here, none_yet}
 use Rattle.store_impl.proofs.places.free.Goals as goal

@@ -1,7 +1,7 @@
 -- `print_record` meets its contract: the record of n qubits, from a place on: the names and a line for each qubit.
 use mathlib.Core.Path.{◌≡◌, ap, refl, sym, subst}
 use mathlib.Core.List.{◌++◌}
-use Prim.Native.Nat.{◌-◌, zero-le}
+use Prim.Native.Nat.{zero-le}
 use native.Mathlib.Numerals.{add-one}
 use native.Mathlib.Nat.{add-zero}
 use native.Mathlib.Omega.{arith}

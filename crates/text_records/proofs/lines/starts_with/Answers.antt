@@ -1,6 +1,5 @@
 -- `starts_with` meets its contract: whether a text starts with the first bytes of a buffer.
 use mathlib.Core.Bool.{false≢true, true≢false}
-use Prim.Native.Nat.{◌-◌}
 use Rattle.text_records.proofs.Starts.{all-compared, byte-differs, none-compared, one-compared, too_short}
 use Rattle.text_records.proofs.lines.starts_with.Goals as goal
 

@@ -1,6 +1,6 @@
 -- `word_at` meets its contract: the word of 16 digits from a place on.
 use mathlib.Core.Path.{◌∙◌, ap, ap₂, refl}
-use Prim.Native.Nat.{◌%◌, ◌+◌, ◌-◌, zero-le}
+use Prim.Native.Nat.{◌%◌, ◌+◌, zero-le}
 use native.Mathlib.Omega.{arith}
 use lib.ListN.{get_or}
 use borrow.Author.Rules.{rules}

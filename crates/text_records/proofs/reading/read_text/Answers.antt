@@ -1,7 +1,7 @@
 -- `read_text` meets its contract: the record of a text.
 use mathlib.Core.List.{List}
 use mathlib.Core.Path.{refl, subst}
-use Prim.Native.Nat.{◌+◌, ◌-◌, ◌<◌, ◌≤◌, ℕ}
+use Prim.Native.Nat.{◌+◌, ◌<◌, ◌≤◌, ℕ}
 use native.Mathlib.Omega.{arith}
 use lib.ListN.{length}
 use borrow.Author.Tests.{not-false, not-true}

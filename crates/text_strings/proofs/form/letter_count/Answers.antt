@@ -1,5 +1,4 @@
 -- `letter_count` meets its contract: a text that has the form has as many lines as its first line has letters.
-use Prim.Native.Nat.{◌-◌}
 use Rattle.text_strings.proofs.FitLoops.{newline-found, newline-missing, none_yet, one-passed}
 use Rattle.text_strings.proofs.form.letter_count.Goals as goal
 

@@ -1,6 +1,6 @@
 -- `letters_fit` meets its contract: whether the n bytes behind a place are letters.
 use mathlib.Core.Path.{ap, ◌∙◌}
-use Prim.Native.Nat.{◌+◌, ◌-◌}
+use Prim.Native.Nat.{◌+◌}
 use native.Mathlib.Numerals.{add-one}
 use lib.ListN.{get_or}
 use Rattle.text.specs.Reading.{is_letter}

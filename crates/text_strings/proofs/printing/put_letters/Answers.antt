@@ -1,6 +1,5 @@
 -- `put_letters` meets its contract: the letters of the first n qubits.
 use mathlib.Core.Path.{ap, ap₂, ◌∙◌}
-use Prim.Native.Nat.{◌-◌}
 use Rattle.pauli.specs.Pauli.{letter}
 use Rattle.text.specs.Strings.{letter_byte}
 use Rattle.text_strings.proofs.PrintLoops.{all-put, none-put, one-put}

@@ -1,5 +1,4 @@
 -- `put_strings` meets its contract: the text of a list fills the buffer.
-use Prim.Native.Nat.{◌-◌}
 use Rattle.text_strings.proofs.PrintLoops.{all_lines, line-room, no_lines, one_line}
 use Rattle.text_strings.proofs.printing.put_strings.Goals as goal
 

@@ -1,6 +1,5 @@
 -- `read_rows` meets its contract: the rows of the n lines of a text.
 use mathlib.Core.Path.{refl}
-use Prim.Native.Nat.{◌-◌}
 use native.Mathlib.Omega.{arith}
 use Rattle.text.proofs.SizeLaws.{line-inside}
 use Rattle.text_strings.proofs.ListLoops.{all-rows, letters-of, no_rows, one-row}

@@ -1,6 +1,6 @@
 -- `exchange` meets its contract: one round on m rows and columns: bit s of the row's number and of the column's are
 -- exchanged.
-use Prim.Native.Nat.{◌+◌, ◌-◌, ◌<◌}
+use Prim.Native.Nat.{◌+◌, ◌<◌}
 use native.Mathlib.Nat.{zero-mod}
 use native.Mathlib.Omega.{arith}
 use lib.ListN.{length-set}
