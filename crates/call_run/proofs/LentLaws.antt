@@ -2,11 +2,11 @@
 use mathlib.Core.Bool.{Bool}
 use mathlib.Core.List.{◌++◌, List, [], ◌∷◌}
 use mathlib.Core.Path.{◌∙◌, ◌≡◌, ap, refl, subst, sym}
-use Prim.Native.Nat.{◌+◌, ◌<◌, ◌≤◌, suc, ℕ}
+use Prim.Native.Nat.{◌+◌, ◌<◌, ◌^◌, ◌≤◌, suc, ℕ}
 use native.Mathlib.Omega.{arith}
 use lib.Dec.{leb}
 use lib.ListN.{get_or, length, length-append, set, take}
-use lib.Seq.{length-take-le, take-suc}
+use lib.Seq.{length-take-le, take_all, take-suc}
 use Rattle.call_run.specs.internal.Waiting.{held_in, meant, meant_record}
 use Rattle.jobs.proofs.Stepwise.{run-qubits}
 use Rattle.jobs.specs.Asked.{number_of}
@@ -193,3 +193,65 @@ ran-next u steps k at other inside before room nb cs used mid R nb' cs' used' af
   where
     long : length (take k steps) ≡ k
     long = length-take-le k steps (omega arith)
+
+-- ---- the loop over a lent slice
+-- after k of the steps, with `rest` of them to run
+pub record Upto (u : UsedRecord) (steps : List Step) (at : ℕ) (before : List ℕ) (rest k : ℕ) (nb cs : List ℕ) (used : ℕ)
+    (mid : List ℕ) : Type 0 where
+  pub count : k + rest ≡ length steps
+  pub fits : used < 2 ^ 64
+  pub ran : WaitingRun u (take k steps) at before nb cs used mid
+  pub neighbours-long : length nb ≡ length u.held.neighbours
+  pub codes-long : length cs ≡ length u.held.codes
+  pub answers-long : length mid ≡ length before
+
+module _ (u : UsedRecord) (steps : List Step) (at : ℕ) (before : List ℕ) where
+  pub upto-none : u.used < 2 ^ 64
+      → Upto u steps at before (length steps) 0 u.held.neighbours u.held.codes u.used before
+  upto-none fits =
+      record {
+        count = omega arith;
+        fits = fits;
+        ran = none-ran u at before;
+        neighbours-long = refl;
+        codes-long = refl;
+        answers-long = refl;
+      }
+
+  module _ (rest k : ℕ) (nb cs : List ℕ) (used : ℕ) (mid : List ℕ) where
+    -- a step more
+    pub upto_next : Upto u steps at before (suc rest) k nb cs used mid → at + length steps ≤ length before →
+        (other : Step)
+        → (nb' cs' : List ℕ) (used' : ℕ) (after : List ℕ) → used' < 2 ^ 64 → length nb' ≡ length nb → length cs' ≡
+        length cs
+        → length after ≡ length mid
+        → WaitingRun (used_record u.held.n nb cs used)
+        (get_or steps k other ∷ []) (at + k) mid nb' cs' used' after
+        → Upto u steps at before rest (suc k) nb' cs' used' after
+    upto_next U room other nb' cs' used' after fits n c a R =
+        record {
+          count = omega (arith, U.count);
+          fits = fits;
+          ran = ran-next u steps k at other (omega (arith, U.count)) before room nb cs used mid U.ran nb' cs' used'
+              after R;
+          neighbours-long = n ∙ U.neighbours-long;
+          codes-long = c ∙ U.codes-long;
+          answers-long = a ∙ U.answers-long;
+        }
+
+    -- what a step asks
+    pub upto-asks : Upto u steps at before (suc rest) k nb cs used mid → at + length steps ≤ length before
+        → ReadyAt at before u
+        → (at + k < length mid)
+        × ReadyAt (at + k) mid (used_record u.held.n nb cs used)
+    upto-asks U room K = (
+      omega (arith, U.count, U.answers-long),
+      subst (λ m. ReadyAt (at + m) mid (used_record u.held.n nb cs used))
+          (length-take-le k steps (omega (arith, U.count)))
+          (U.ran.ready K),
+    )
+
+    -- all of them
+    pub upto_all : Upto u steps at before 0 k nb cs used mid → WaitingRun u steps at before nb cs used mid
+    upto_all U = subst (λ t. WaitingRun u t at before nb cs used mid) (take_all k steps (omega (arith, U.count)))
+        U.ran
