@@ -172,7 +172,7 @@ typedef uint64_t sukhlent_length;
  * Threads: no call keeps anything between calls. Two threads may call at once, each with buffers
  *   of its own for what is not const.
  * Stack: no call uses the heap. Of the stack, compare, equivalent, compare_records and
- *   equivalent_records take at most these bytes, and every other call at most 6,500 (measured, not
+ *   equivalent_records take at most these bytes, and every other call at most 6,000 (measured, not
  *   proved: docs/PROCESSORS.md):
  *   x86-64        17,000
  *   x86-64-v3     17,000
