@@ -45,8 +45,8 @@ BYPASSES = [
     ]),
     ("one composition", "a complementation has a row of its own", [
         (
-            "    let around = rest | single(q);\n    let sixes = before_each(S_DAG);\n",
-            "    let around = rest | single(q);\n    let sixes = row_of_six();\n",
+            "    let turned = before_each(k);\n    let mut rest = vertices;\n",
+            "    let turned = row_of_six();\n    let mut rest = vertices;\n",
         ),
     ]),
     ("inverse", "the codes that undo a record's are not asked for", [
@@ -56,7 +56,7 @@ BYPASSES = [
         ("    let undone = Code { index: second }.inverse();\n", "    let undone = undone_by_digits(second);\n"),
     ]),
     ("image of a letter", "where a code sends a letter is told by digits", [
-        ("    let sent = Code { index: code }.image(from);\n", "    let sent = by_digits(code, from);\n"),
+        ("    Code { index: code }.image(from).letter == to\n", "    by_digits(code, from) == to\n"),
     ]),
     ("image of a letter", "a measurement is read off by digits", [
         (
@@ -66,15 +66,12 @@ BYPASSES = [
     ]),
     ("match on the class, bits C and D", "C by the number of the code", [
         (
-            "        let z = letters.z;\n        x_bit(z)\n",
-            "        let z = letters.z;\n        x_bit(z) | (8 <= index)\n",
+            "        x_bit(image_letters(self.index / 4).z)\n",
+            "        x_bit(image_letters(self.index / 4).z) | (8 <= self.index)\n",
         ),
     ]),
     ("match on the class, bits C and D", "D without the match", [
-        (
-            "        let letters = image_letters(index / 4);\n        let x = letters.x;\n        x_bit(x)\n",
-            "        index < 8\n",
-        ),
+        ("        x_bit(image_letters(self.index / 4).x)\n", "        self.index < 8\n"),
     ]),
     ("match on the class, bits C and D", "the letters by digits", [
         ("        4 => ImageLetters { x: y, z: x },\n", ""),
@@ -86,15 +83,15 @@ BYPASSES = [
         ("    own.c_bit() & own.d_bit()\n", "    (12 <= code) & (code < 20)\n"),
     ]),
     ("match on the class, bits C and D", "an amplitude takes C from the number of the code", [
-        ("        all = flip_where(all, i, !code.c_bit());\n", "        all = flip_where(all, i, codes[i] < 8);\n"),
+        ("        all = flip_where(all, i, !Code { index }.c_bit());\n", "        all = flip_where(all, i, index < 8);\n"),
     ]),
     ("bits C and D of the image rule", "the image rule takes C from the number of the code", [
         ("        c = flip_where(c, q, Code { index }.c_bit());\n", "        c = flip_where(c, q, 8 <= index);\n"),
     ]),
     ("bits C and D of the image rule", "the image rule takes its bits from words of digits", [
         (
-            "    let end = run_rule(words, bytes, list, begin(bytes));\n",
-            "    let end = run_rule(words, bytes, list, by_words(action_of(bytes)));\n",
+            "    run_rule(words, bytes, list, begin(bytes))\n",
+            "    run_rule(words, bytes, list, by_words(action_of(bytes)))\n",
         ),
     ]),
     ("reduction by value", "the rows are lent", [
@@ -126,19 +123,19 @@ BYPASSES = [
         ("    odd((z & x2) ^ (x & z2))\n", "    folded((z & x2) ^ (x & z2))\n"),
     ]),
     ("count of ones", "ones are counted in a loop", [
-        ("    u64::count_ones(w) % 2 == 1\n", "    counted(w) % 2 == 1\n"),
+        ("    w.count_ones() % 2 == 1\n", "    counted(w) % 2 == 1\n"),
     ]),
     ("trailing zeros", "the image rule looks for its vertex in a loop", [
-        ("list, at, smallest(both));\n", "list, at, first_bit(both));\n"),
+        ("list, at, smallest(both)));\n", "list, at, first_bit(both)));\n"),
         ("    let k = smallest(neighbours[j] & c);\n", "    let k = first_bit(neighbours[j] & c);\n"),
     ]),
     ("trailing zeros", "the smallest bit in a loop", [
-        ("    u64::trailing_zeros(w) as usize\n", "    first_bit(w)\n"),
+        ("    w.trailing_zeros() as usize\n", "    first_bit(w)\n"),
     ]),
     ("shifts, masks and xor", "edges are flipped one by one", [
         (
-            "        neighbours[i] = neighbours[i] ^ flip(around, i);\n        rest = without_smallest(rest);\n    }\n}",
-            "        flip_each(neighbours, i, around);\n        rest = without_smallest(rest);\n    }\n}",
+            "        neighbours[i] ^= flips(i);\n        rest = without_smallest(rest);\n    }\n}",
+            "        flip_each(neighbours, i, flips(i));\n        rest = without_smallest(rest);\n    }\n}",
         ),
     ]),
     ("Amplitude taken apart by match", "a line of the plot from the turns", [
@@ -164,14 +161,15 @@ BYPASSES = [
     ]),
     ("lent slice of step structs", "a job is run from parallel slices", [
         (
-            "    let used = run_steps(n, neighbours, codes, 0, steps, count, 0, answers);\n",
+            "    let used = run_lent(n, neighbours, codes, 0, steps, 0, answers);\n",
             "    let used = run_numbers(n, neighbours, codes, 0, count, ops, a, b, values, answers);\n",
         ),
     ]),
     ("lent slice of step structs", "a job is lent to the runner 64 steps at a time", [
         (
-            "    steps: [Step; 4096],\n    count: usize,\n    at: usize,\n",
-            "    steps: [Step; 64],\n    count: usize,\n    at: usize,\n",
+            "    let used = run_lent(n, neighbours, codes, 0, steps, 0, answers);\n",
+            "    let mut used = 0;\n    for (k, part) in steps.chunks(64).enumerate() {\n"
+            "        used = run_lent(n, neighbours, codes, used, part, 64 * k, answers);\n    }\n",
         ),
     ]),
 ]

@@ -155,6 +155,7 @@ def one_composition(world):
     wrong = [
         f"{lines_of(item)} promises a composed code and does not read the composition table"
         for item in world.ensured(then, tables(world), but=inverse)
+        if not re.search(r"\. ?post\b", " ".join(item.clauses("ensures")))  # it promises what the step given to it does
     ]
     for item in world.functions:
         for words in given_to_codes(item.body()):
@@ -243,6 +244,7 @@ def image_bits(world):
         item for item in world.functions
         if item.function.answer in tracked and not tracked & set(parameters(item).values())
     ]
+    starts = [item for item in starts if not set(starts) & world.sources.named(item)]
     wrong = [] if starts else ["no function begins the image rule"]
     for item in starts:
         names = {one.name for one in world.sources.named(item) if one.owner}
@@ -329,7 +331,7 @@ def smallest(world):
 
 def edge_flips(world):
     """'bit q of a word belongs to qubit q': edges are flipped by an xor of words, a bit of a word is found by a shift."""
-    flip = r"neighbours \[ (\w+) \] = neighbours \[ \1 \] \^"
+    flip = r"neighbours \[ (\w+) \] (?:= neighbours \[ \1 \] \^|\^ ?=)"
     flips = [item for item in world.functions if re.search(flip, " ".join(item.body()))]
     complementing = world.promising(world.promises.definition("complement", "Simple"))
     wrong = [
@@ -396,11 +398,24 @@ def step_struct(world):
     return found[0].name if len(found) == 1 else ""
 
 
-def lends_whole(world, item, whole, runners):
-    """Whether a function is given an array of all steps and lends the first of them to a runner."""
-    given = [name for name, kind in parameters(item).items() if re.fullmatch(whole, kind)]
-    lent = any(re.search(rf"& {name} \[ \.\. \w+ \]", " ".join(item.body())) for name in given)
-    return lent and bool(set(runners) & world.sources.named(item))
+def handed(world, item, slices):
+    """The functions to which this one hands a lent slice of steps, and those to which they hand it on whole."""
+    found, rest = set(), [item]
+    while rest:
+        for one in world.sources.named(rest.pop()) - found:
+            given = [name for name, kind in parameters(one).items() if kind == slices]
+            if given:
+                found.add(one)
+                if not re.search(rf"\b{given[0]} \[", " ".join(one.body())):
+                    rest.append(one)
+    return found
+
+
+def lends_whole(world, item, arrays, slices, runners):
+    """Whether a function is given a struct with the array of all steps and lends the first of them to a runner."""
+    given = [(name, field) for name, kind in parameters(item).items() for own, field in arrays if own == kind]
+    lent = any(re.search(rf"& {name} \. {field} \[ \.\. [\w .]+ \]", " ".join(item.body())) for name, field in given)
+    return lent and bool(set(runners) & handed(world, item, slices))
 
 
 def job_steps(world):
@@ -408,15 +423,16 @@ def job_steps(world):
     step, job = step_struct(world), world.root_of("program job")
     if not step or job is None:
         return ["there is no program job, or no struct of an operation, two qubits and a value"]
-    on_way = [item for item in world.way(job) if item.kind == "fn"]
-    runners = [item for item in on_way if f"& [ {step} ]" in parameters(item).values() and "while" in item.body()]
+    on_way, slices = [item for item in world.way(job) if item.kind == "fn"], f"& [ {step} ]"
+    runners = [item for item in on_way if slices in parameters(item).values() and {"for", "while"} & set(item.body())]
     wrong = [] if len(runners) == 1 else [f"{len(runners)} functions on the way of job run a lent slice of steps"]
-    whole = rf"\[ {step} ; 4096 \]"
-    if not any(lends_whole(world, item, whole, runners) for item in on_way):
-        wrong.append("job does not lend one array of 4,096 steps to the runner")
     structs = [item for item in world.way(job) if item.kind == "struct"]
-    if not any(re.search(whole, " ".join(one)) for item in structs for one in item.fields):
+    whole = ["[", step, ";", "4096", "]"]
+    arrays = [(item.name, one[-7]) for item in structs for one in item.fields if one[-5:] == whole]
+    if not arrays:
         wrong.append("job does not keep the steps that it reads in one array of structs")
+    if not any(lends_whole(world, item, arrays, slices, runners) for item in on_way):
+        wrong.append("job does not lend one array of 4,096 steps to the runner")
     for item in on_way:
         if sum(kind in ("& [ u16 ]", "& mut [ u16 ]") for kind in parameters(item).values()) > 1:
             wrong.append(f"{lines_of(item)} takes the steps of a job as parallel slices")

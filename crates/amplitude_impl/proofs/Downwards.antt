@@ -133,7 +133,8 @@ module _ (words codes : List ℕ) where
           same-trans
           (same-sym (same-group n (measured_rows n (rows_of n down) Z (q - 1)
           (contradicts n (rows_of n down) Z (q - 1) false))
-          (measured-proper n (rows_of n down) proper-down Z (q - 1) hq (contradicts n (rows_of n down) Z (q - 1) false))))
+          (measured-proper n (rows_of n down) proper-down Z (q - 1) hq
+          (contradicts n (rows_of n down) Z (q - 1) false))))
           (subst (λ b. SameGroup n n (measured_rows n (rows_of n down) Z (q - 1) b) (rows_of n held₂)) is_one
           (same-trans (measured-of-group n Z (q - 1) hq (rows_of n down) (rows_of n held₁) proper-down proper-held
           D.group one)

@@ -76,7 +76,13 @@ module _ (words codes : List ℕ) (U : Unrefused (record_in words codes)) (y cho
   pub turns-small : (sum j t : ℕ) → sum ≡ exponent (kept_turns j (held_record (record_in words codes)) (bit y))
       → t ≡ exponent (term j) → sum + t < 8
   turns-small sum j t h e =
-      omega (arith, h, e, exponent_lt (kept_turns j (held_record (record_in words codes)) (bit y)), exponent_lt (term j))
+      omega (
+        arith,
+        h,
+        e,
+        exponent_lt (kept_turns j (held_record (record_in words codes)) (bit y)),
+        exponent_lt (term j),
+      )
 
   pub turns-all : (sum j : ℕ) → j ≤ length words → length words ≤ j
       → sum ≡ exponent (kept_turns j (held_record (record_in words codes)) (bit y))

@@ -35,9 +35,7 @@ fn measured_down(neighbours: &mut [u64], codes: &mut [u8]) -> u64
         (held_record (record_in neighbours.old codes.old))) }
 {
     let mut low = 0;
-    let mut q = neighbours.len();
-    while 0 < q {
-        q -= 1;
+    for q in (0..neighbours.len()).rev() {
         low = flip_where(low, q, forced(neighbours, codes, q));
     }
     low

@@ -20,8 +20,8 @@ fn dot_below(a: u64, b: u64, j: usize) -> bool
     dot_product(a & (single(j) - 1), b)
 }
 
-// The equation of vertex j, with this neighbour word and this code: where it has a Hadamard (C = 1), its bit of y is the
-// sign of its code and the bits of its smaller neighbours.
+// The equation of vertex j, with this neighbour word and this code: where it has a Hadamard (C = 1), its bit of y is
+// the sign of its code and the bits of its smaller neighbours.
 fn fits(word: u64, code: u8, y: u64, j: usize) -> bool
     requires { (j < 64) × (code < 24) }
     ensures { result ≡ (not (bit_c (clifford_of code)) || same_bit (bit y j)
@@ -36,12 +36,10 @@ pub fn supports(neighbours: &[u64], codes: &[u8], y: u64) -> bool
     ensures { result ≡ every (length neighbours.now)
         (fits_at (held_record (record_in neighbours.now codes.now)) y) }
 {
-    let mut j = 0;
-    while j < neighbours.len() {
+    for j in 0..neighbours.len() {
         if !fits(neighbours[j], codes[j], y, j) {
             return false;
         }
-        j += 1;
     }
     true
 }
@@ -52,11 +50,8 @@ pub fn kept(codes: &[u8]) -> u64
     ensures { result ≡ word_of (length codes.now) (λ q. not (bit_c (codes_of codes.now q))) }
 {
     let mut all = 0;
-    let mut i = 0;
-    while i < codes.len() {
-        let code = Code { index: codes[i] };
-        all = flip_where(all, i, !code.c_bit());
-        i += 1;
+    for (i, &index) in codes.iter().enumerate() {
+        all = flip_where(all, i, !Code { index }.c_bit());
     }
     all
 }
@@ -82,10 +77,8 @@ pub fn turns(neighbours: &[u64], codes: &[u8], y: u64) -> u8
 {
     let chosen = kept(codes) & y;
     let mut sum = 0;
-    let mut j = 0;
-    while j < neighbours.len() {
+    for j in 0..neighbours.len() {
         sum = (sum + turns_of(neighbours[j], codes[j], chosen, j)) % 4;
-        j += 1;
     }
     sum
 }

@@ -21,7 +21,7 @@ fn respond<R: Read>(input: &mut R, out: &mut [u8]) -> io::Result<usize>
     let mut z = [0u64; 64];
     let mut x = [0u64; 64];
     let verdict = read_list(input, &mut signs, &mut z, &mut x)?;
-    Ok(plot_reply(verdict, signs, z, x, out))
+    Ok(plot_reply(verdict, &signs, &z, &x, out))
 }
 
 fn main(rt: HostRuntime) -> io::Result<()> {

@@ -1,6 +1,6 @@
 pub mod AddedLines
 pub mod Calling
-pub mod CopiedLists
+pub mod CopiedItems
 pub mod EarlierNumbers
 pub mod Filling
 pub mod Fitting
@@ -9,6 +9,7 @@ pub mod Mapping
 pub mod OverSets
 pub mod Parts
 pub mod Reaching
+pub mod RefusalLaws
 pub mod SentenceLaws
 pub mod Tabulate
 pub mod Writing

@@ -64,13 +64,3 @@ zeros-at n i = elim (lt-or-ge i n) [
   | inl l ↦ get_or-replicate n i 0 0 l
   | inr l ↦ get_or-eq_default (replicate n 0) 0 (le_trans (le_of_eq (length-replicate n 0)) l)
 ]
-
--- a lent buffer copied into them
-abbrev pub CopyOf : List ℕ → ℕ → ℕ → Type 0
-CopyOf lent i v = v ≡ get_or lent i 0
-
-pub copied_all : (m : ℕ) (lent ys : List ℕ) (k : ℕ) → Mapped (CopyOf lent) (zeros m) ys k → length lent ≤ k →
-    k ≤ length lent → (i : ℕ) → get_or ys i 0 ≡ get_or lent i 0
-copied_all m lent ys k M a b =
-    mapped_end (CopyOf lent) (zeros m) ys (length lent) k M a b
-    (λ i l. zeros-at m i ∙ sym (get_or-eq_default lent 0 l))

@@ -1,6 +1,8 @@
 // Lent records copied into other buffers, and into arrays.
 ghost use Rattle.std.specs.Prelude.{◌≡◌, length};
 
+use crate::copying::copy_front;
+
 // Copies a record into two buffers with as many places.
 pub fn copy_record(neighbours: &[u64], codes: &[u8], words: &mut [u64], bytes: &mut [u8])
     requires codes_len { length codes.now ≡ length neighbours.now }
@@ -9,10 +11,6 @@ pub fn copy_record(neighbours: &[u64], codes: &[u8], words: &mut [u64], bytes: &
     ensures { (words.new ≡ neighbours.now)
         × (bytes.new ≡ codes.now) }
 {
-    let mut i = 0;
-    while i < neighbours.len() {
-        words[i] = neighbours[i];
-        bytes[i] = codes[i];
-        i += 1;
-    }
+    copy_front(neighbours, words);
+    copy_front(codes, bytes);
 }

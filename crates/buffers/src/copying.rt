@@ -1,39 +1,21 @@
-// Answers copied from arrays into lent buffers.
-ghost use Rattle.std.specs.Prelude.{◌≡◌, ◌≤◌, get_or, length, take};
-ghost use Rattle.buffers.specs.Buffers.{tabulate, written};
+// Items copied from one buffer to the first places of another, one by one: the library's copy looks at addresses, which
+// are not numbers of one width on every processor.
+ghost use Rattle.std.specs.Prelude.{◌≡◌, ◌≤◌, ◌++◌, drop, length, take};
 
-// A word of the array for every place of the buffer.
-pub fn copy_words(from: [u64; 64], to: &mut [u64])
-    requires { length to.old ≤ 64 }
-    ensures { to.new ≡ tabulate (length to.old) (λ j. get_or from j 0) }
+// All items; the places past them keep theirs.
+pub fn copy_front<T: Copy>(from: &[T], to: &mut [T])
+    requires { length from.now ≤ length to.old }
+    ensures { to.new ≡ from.now ++ drop (length from.now) to.old }
 {
-    let mut i = 0;
-    while i < to.len() {
+    for i in 0..from.len() {
         to[i] = from[i];
-        i += 1;
     }
 }
 
-// A byte of the array for every place of the buffer.
-pub fn copy_bytes(from: [u8; 64], to: &mut [u8])
-    requires { length to.old ≤ 64 }
-    ensures { to.new ≡ tabulate (length to.old) (λ j. get_or from j 0) }
+// An item for every place; what is left over is not looked at.
+pub fn copy_first<T: Copy>(from: &[T], to: &mut [T])
+    requires { length to.old ≤ length from.now }
+    ensures { to.new ≡ take (length to.old) from.now }
 {
-    let mut i = 0;
-    while i < to.len() {
-        to[i] = from[i];
-        i += 1;
-    }
-}
-
-// The first `count` bytes of the array; the places past them keep theirs.
-pub fn copy_list(from: [u8; 96], count: usize, to: &mut [u8])
-    requires { (count ≤ 96) × (count ≤ length to.old) }
-    ensures { to.new ≡ written (take count from) to.old }
-{
-    let mut i = 0;
-    while i < count {
-        to[i] = from[i];
-        i += 1;
-    }
+    copy_front(&from[..to.len()], to);
 }

@@ -1,16 +1,19 @@
-// The refusal number of several lists or records together: the first of their numbers in checking order.
+// The refusal of several lists or records together: the first of theirs in checking order.
 ghost use Rattle.std.specs.Prelude.{◌≡◌};
+ghost use Rattle.buffers.specs.internal.Numbers.{number_of};
 ghost use Rattle.buffers.specs.internal.Earlier.{earlier_of};
 
-// The number of the line that comes first in checking order; 0 stands for no line.
-pub fn earlier(a: u8, b: u8) -> u8
-    ensures { result ≡ earlier_of a b }
+use crate::refusals::Refusal;
+
+// The refusal that comes first in checking order, where one of the two refuses.
+pub fn earlier(a: Result<(), Refusal>, b: Result<(), Refusal>) -> Result<(), Refusal>
+    ensures { number_of result ≡ earlier_of (number_of a) (number_of b) }
 {
-    if a == 0 {
+    let Err(one) = a else {
         return b;
-    }
-    if b == 0 {
+    };
+    let Err(other) = b else {
         return a;
-    }
-    if a < b { a } else { b }
+    };
+    if one.number() < other.number() { a } else { b }
 }

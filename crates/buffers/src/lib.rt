@@ -6,12 +6,13 @@ pub mod arrays;
 pub mod copies;
 mod copying;
 pub mod earliest;
+pub mod refusals;
 
 ghost use Rattle.std.specs.Prelude.{not, ◌≡◌, ◌^◌, ◌≤◌, eqb};
 ghost use Rattle.buffers.specs.Refusals.{bad_count, reaching};
 ghost use Rattle.words.specs.Bits.{digit};
 
-pub use copying::{copy_bytes, copy_list, copy_words};
+pub use copying::{copy_first, copy_front};
 use words::stray;
 
 // Line 2: n is 0 or above 64.
@@ -33,10 +34,8 @@ pub fn reaches(buffer: &[u8], b: u8) -> bool
     ensures { result ≡ reaching b buffer.now }
 {
     let mut found = false;
-    let mut i = 0;
-    while i < buffer.len() {
-        found = found | (b <= buffer[i]);
-        i += 1;
+    for &value in buffer {
+        found = found | (b <= value);
     }
     found
 }
@@ -47,10 +46,8 @@ pub fn strays(buffer: &[u64], n: usize) -> bool
     ensures { result ≡ reaching (2 ^ n) buffer.now }
 {
     let mut all = 0;
-    let mut i = 0;
-    while i < buffer.len() {
-        all = all | buffer[i];
-        i += 1;
+    for &word in buffer {
+        all = all | word;
     }
     stray(all, n)
 }
@@ -59,5 +56,5 @@ pub fn strays(buffer: &[u64], n: usize) -> bool
 pub fn sign_digit(minus: bool) -> u8
     ensures { result ≡ digit minus }
 {
-    if minus { 1 } else { 0 }
+    minus as u8
 }

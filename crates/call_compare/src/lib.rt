@@ -3,6 +3,7 @@
 
 pub mod records;
 
+ghost use Rattle.buffers.specs.internal.Numbers.{number_of};
 ghost use Rattle.std.specs.Prelude.{◌||◌, not, ◌≡◌, ◌≤◌, eqb, length};
 ghost use Rattle.buffers.specs.Calls.{Call};
 ghost use Rattle.buffers.specs.Refusals.{bad_count};
@@ -11,6 +12,7 @@ ghost use Rattle.calls.specs.Equivalences.{equivalent_call};
 ghost use Rattle.calls.specs.internal.Limited.{comparing_call};
 
 use buffers::earliest::earlier;
+use buffers::refusals::Refusal;
 use buffers::{bad_count, other_than};
 use call_lists::reduce;
 use comparison_parts::answer::compare_reduced;
@@ -39,7 +41,7 @@ fn compare_lists(
     choice: &mut [u8],
     list: &mut [u8],
     count: &mut u64,
-) -> u8
+) -> Result<(), Refusal>
     requires le_n { (1 ≤ n) × (n ≤ 64) × (length choice.old ≡ n) × (length list.old ≡ 96) }
     requires neighbours1_len { (length neighbours1.old ≡ n) × (length codes1.old ≡ n) × (length neighbours2.old ≡ n)
         × (length codes2.old ≡ n) }
@@ -47,14 +49,11 @@ fn compare_lists(
         (record { n = n; signs = signs1.now; z = z1.now; x = x1.now })
         (record { n = n; signs = signs2.now; z = z2.now; x = x2.now })
         choice.old list.old count.old
-        choice.new list.new count.new) result }
+        choice.new list.new count.new) (number_of result) }
 {
     let first = reduce(n, signs1, z1, x1, neighbours1, codes1);
     let second = reduce(n, signs2, z2, x2, neighbours2, codes2);
-    let early = earlier(first, second);
-    if early != 0 {
-        return early;
-    }
+    earlier(first, second)?;
     compare_reduced(
         limited,
         n as usize,
@@ -83,18 +82,18 @@ fn compare_by(
     choice: &mut [u8],
     list: &mut [u8],
     count: &mut u64,
-) -> u8
+) -> Result<(), Refusal>
     ensures { Call (comparing_call limited
         (record { n = n1; signs = signs1.now; z = z1.now; x = x1.now })
         (record { n = n2; signs = signs2.now; z = z2.now; x = x2.now })
         choice.old list.old count.old
-        choice.new list.new count.new) result }
+        choice.new list.new count.new) (number_of result) }
 {
     if pair_count(n1, n2) {
-        return 2;
+        return Err(Refusal::Count);
     }
     if other_than(choice.len(), n1) | other_than(list.len(), 96) {
-        return 4;
+        return Err(Refusal::Length);
     }
     let n = n1 as usize;
     let mut neighbours1 = [0u64; 64];
@@ -133,12 +132,12 @@ pub fn compare(
     choice: &mut [u8],
     list: &mut [u8],
     count: &mut u64,
-) -> u8
+) -> Result<(), Refusal>
     ensures { Call (compare_call
         (record { n = n1; signs = signs1.now; z = z1.now; x = x1.now })
         (record { n = n2; signs = signs2.now; z = z2.now; x = x2.now })
         choice.old list.old count.old
-        choice.new list.new count.new) result }
+        choice.new list.new count.new) (number_of result) }
 {
     compare_by(
         true, n1, signs1, z1, x1, n2, signs2, z2, x2, choice, list, count,
@@ -158,12 +157,12 @@ pub fn equivalent(
     choice: &mut [u8],
     list: &mut [u8],
     count: &mut u64,
-) -> u8
+) -> Result<(), Refusal>
     ensures { Call (equivalent_call
         (record { n = n1; signs = signs1.now; z = z1.now; x = x1.now })
         (record { n = n2; signs = signs2.now; z = z2.now; x = x2.now })
         choice.old list.old count.old
-        choice.new list.new count.new) result }
+        choice.new list.new count.new) (number_of result) }
 {
     compare_by(
         false, n1, signs1, z1, x1, n2, signs2, z2, x2, choice, list, count,

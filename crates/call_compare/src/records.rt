@@ -1,4 +1,5 @@
 // The public calls that compare two records: copies of both are reduced, and these are compared.
+ghost use Rattle.buffers.specs.internal.Numbers.{number_of};
 ghost use Rattle.std.specs.Prelude.{◌≡◌, length};
 ghost use Rattle.comparison.specs.internal.ComparedPairs.{HoldsReduced, PairAnswered};
 ghost use Rattle.buffers.specs.Calls.{Call};
@@ -12,6 +13,7 @@ use crate::pair_count;
 use buffers::copies::copy_record;
 use buffers::earliest::earlier;
 use buffers::other_than;
+use buffers::refusals::Refusal;
 use comparison_parts::answer::compare_reduced;
 use operations_gates::settling::normalise;
 use record_impl::checks::record_refusal;
@@ -43,7 +45,7 @@ fn compare_copies(
     choice: &mut [u8],
     list: &mut [u8],
     count: &mut u64,
-) -> u8
+) -> Result<(), Refusal>
     requires unrefused { Unrefused (lent_record n neighbours1.now codes1.now) }
     requires unrefused_2 { Unrefused (lent_record n neighbours2.now codes2.now) }
     requires words1_len { (length words1.old ≡ n) × (length bytes1.old ≡ n) × (length words2.old ≡ n)
@@ -51,7 +53,7 @@ fn compare_copies(
     ensures { PairAnswered limited n
         (held_rows (lent_record n neighbours1.now codes1.now))
         (held_rows (lent_record n neighbours2.now codes2.now))
-        choice.old list.old count.old result
+        choice.old list.old count.old (number_of result)
         choice.new list.new count.new }
 {
     reduce_copy(neighbours1, codes1, words1, bytes1);
@@ -74,23 +76,20 @@ fn compare_records_by(
     choice: &mut [u8],
     list: &mut [u8],
     count: &mut u64,
-) -> u8
+) -> Result<(), Refusal>
     ensures { Call (comparing_records_call limited
         (lent_record n1 neighbours1.now codes1.now)
         (lent_record n2 neighbours2.now codes2.now)
         choice.old list.old count.old
-        choice.new list.new count.new) result }
+        choice.new list.new count.new) (number_of result) }
 {
     if pair_count(n1, n2) {
-        return 2;
+        return Err(Refusal::Count);
     }
     let others = other_than(choice.len(), n1) | other_than(list.len(), 96);
     let first = record_refusal(n1, neighbours1, codes1, others, false);
     let second = record_refusal(n2, neighbours2, codes2, false, false);
-    let early = earlier(first, second);
-    if early != 0 {
-        return early;
-    }
+    earlier(first, second)?;
     let n = n1 as usize;
     let mut words1 = [0u64; 64];
     let mut bytes1 = [0u8; 64];
@@ -124,12 +123,12 @@ pub fn compare_records(
     choice: &mut [u8],
     list: &mut [u8],
     count: &mut u64,
-) -> u8
+) -> Result<(), Refusal>
     ensures { Call (compare_records_call
         (lent_record n1 neighbours1.now codes1.now)
         (lent_record n2 neighbours2.now codes2.now)
         choice.old list.old count.old
-        choice.new list.new count.new) result }
+        choice.new list.new count.new) (number_of result) }
 {
     compare_records_by(
         true,
@@ -156,12 +155,12 @@ pub fn equivalent_records(
     choice: &mut [u8],
     list: &mut [u8],
     count: &mut u64,
-) -> u8
+) -> Result<(), Refusal>
     ensures { Call (equivalent_records_call
         (lent_record n1 neighbours1.now codes1.now)
         (lent_record n2 neighbours2.now codes2.now)
         choice.old list.old count.old
-        choice.new list.new count.new) result }
+        choice.new list.new count.new) (number_of result) }
 {
     compare_records_by(
         false,

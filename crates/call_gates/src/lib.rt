@@ -4,7 +4,9 @@
 pub mod complement;
 pub mod measure;
 
-ghost use Rattle.std.specs.Prelude.{cond, false, true, ◌≡◌, ℕ, ◌<◌, ◌≤◌, get_or, length};
+ghost use Rattle.buffers.specs.internal.Numbers.{number_of};
+ghost use Rattle.std.specs.Prelude.{false, true, ◌≡◌, ℕ, ◌<◌, ◌≤◌, get_or, length};
+ghost use Rattle.std.specs.Option.{IfSome, is_none};
 ghost use Rattle.buffers.specs.Calls.{Call};
 ghost use Rattle.buffers.specs.Refusals.{first_fitting, reaching};
 ghost use Rattle.operations_gates.specs.internal.Suspects.{Marked};
@@ -15,39 +17,32 @@ ghost use Rattle.calls.specs.InPlace.{used_call};
 ghost use Rattle.calls.specs.internal.InPlace.{used_in_place};
 ghost use Rattle.call_gates.specs.internal.Knowing.{Found, Known};
 
+use buffers::refusals::Refusal;
 use operations_checks::used_number;
-use operations_gates::suspecting::{Seen, look, suspects};
+use operations_gates::suspecting::{look, suspects};
 use operations_gates::{cz_record, gate_record};
 use words::bit_at;
 
-// 6 where line 6 holds of a further argument.
-fn six_number(six: bool) -> u8
-    ensures { result ≡ cond six 6 0 }
-{
-    if six { 6 } else { 0 }
-}
-
-// The number of the first line of a record that holds, which need not be looked for where none is known to hold;
-// `looked`: `over` says whether a code is 24 or more; `six`: line 6 holds of a further argument.
+// The first line of a record that holds, which need not be looked for where none is known to hold;
+// `over`: whether a code is 24 or more, where the caller has looked; `six`: line 6 holds of a further argument.
 fn known_number(
     n: u64,
     neighbours: &[u64],
     codes: &[u8],
     used: u64,
-    looked: bool,
-    over: bool,
+    over: Option<bool>,
     six: bool,
     known: bool,
-) -> u8
+) -> Result<(), Refusal>
     requires known { Known known (used_record n neighbours.now codes.now used) }
-    requires looked { Looked looked codes.now over }
-    ensures { result ≡ first_fitting (used_lines (used_record n neighbours.now codes.now used)
+    requires looked { Looked over codes.now }
+    ensures { number_of result ≡ first_fitting (used_lines (used_record n neighbours.now codes.now used)
         false false six) }
 {
     if known {
-        return six_number(six);
+        return if six { Err(Refusal::Value) } else { Ok(()) };
     }
-    used_number(n, neighbours, codes, used, 0, false, looked, over, six)
+    used_number(n, neighbours, codes, used, 0, false, over, six)
 }
 
 // The same, where the codes have not been looked at.
@@ -58,42 +53,38 @@ pub fn known_refusal(
     used: u64,
     six: bool,
     known: bool,
-) -> u8
+) -> Result<(), Refusal>
     requires { Known known (used_record n neighbours.now codes.now used) }
-    ensures { result ≡ first_fitting (used_lines (used_record n neighbours.now codes.now used)
+    ensures { number_of result ≡ first_fitting (used_lines (used_record n neighbours.now codes.now used)
         false false six) }
 {
-    known_number(n, neighbours, codes, used, false, false, six, known)
+    known_number(n, neighbours, codes, used, None, six, known)
 }
 
-// The number of the first line of a record that holds, then 8 where `eight` does, then 16 where `sixteen` does;
-// `looked`: `over` says whether a code is 24 or more; `six`: line 6 holds of a further argument; `known`: no line of the
-// record alone holds.
+// The first line of a record that holds, then 8 where `eight` does, then 16 where `sixteen` does;
+// `over`: whether a code is 24 or more, where the caller has looked; `six`: line 6 holds of a further argument;
+// `known`: no line of the record alone holds.
 fn in_place_number(
     n: u64,
     neighbours: &[u64],
     codes: &[u8],
     used: u64,
-    looked: bool,
-    over: bool,
+    over: Option<bool>,
     six: bool,
     eight: bool,
     sixteen: bool,
     known: bool,
-) -> u8
+) -> Result<(), Refusal>
     requires known { Known known (used_record n neighbours.now codes.now used) }
-    requires looked { Looked looked codes.now over }
-    ensures { result ≡ first_fitting (used_in_place (used_record n neighbours.now codes.now used)
+    requires looked { Looked over codes.now }
+    ensures { number_of result ≡ first_fitting (used_in_place (used_record n neighbours.now codes.now used)
         six eight sixteen) }
 {
-    let early = known_number(n, neighbours, codes, used, looked, over, six, known);
-    if early != 0 {
-        return early;
-    }
+    known_number(n, neighbours, codes, used, over, six, known)?;
     if eight {
-        return 8;
+        return Err(Refusal::Qubit);
     }
-    if sixteen { 16 } else { 0 }
+    if sixteen { Err(Refusal::Used) } else { Ok(()) }
 }
 
 // The same, where the codes have not been looked at.
@@ -106,38 +97,37 @@ pub fn in_place_refusal(
     eight: bool,
     sixteen: bool,
     known: bool,
-) -> u8
+) -> Result<(), Refusal>
     requires { Known known (used_record n neighbours.now codes.now used) }
-    ensures { result ≡ first_fitting (used_in_place (used_record n neighbours.now codes.now used)
+    ensures { number_of result ≡ first_fitting (used_in_place (used_record n neighbours.now codes.now used)
         six eight sixteen) }
 {
-    in_place_number(
-        n, neighbours, codes, used, false, false, six, eight, sixteen, known,
-    )
+    in_place_number(n, neighbours, codes, used, None, six, eight, sixteen, known)
 }
 
-// One look at all codes, for line 6 and for what follows; none where no line of the record holds.
-fn first_look(codes: &[u8], known: bool) -> Seen
+// One look at all codes, for line 6 and for what follows; it is not made where no line of the record holds, and no
+// vertex is told then.
+fn first_look(codes: &[u8], known: bool) -> Option<u64>
     requires { known ≡ true → reaching 24 codes.now ≡ false }
-    ensures over_value { result.over ≡ reaching 24 codes.now }
-    ensures found { Found known codes.now result.suspects }
+    ensures over_value { is_none result ≡ reaching 24 codes.now }
+    ensures found { IfSome result (λ word. Found known codes.now word) }
 {
     if known {
-        return Seen {
-            over: false,
-            suspects: 0,
-        };
+        return Some(0);
     }
     look(codes)
 }
 
 // The vertices with a code that is odd, or 8 or more: as the first look told, or by a look where none was made.
-fn found(codes: &[u8], known: bool, word: u64) -> u64
+fn found(codes: &[u8], known: bool, seen: Option<u64>) -> u64
     requires codes_len_bound { (length codes.now ≤ 64) × ((q : ℕ) → get_or codes.now q 0 < 24) }
-    requires found { Found known codes.now word }
+    requires found { IfSome seen (λ word. Found known codes.now word) }
     ensures { Marked codes.now result }
 {
-    if known { suspects(codes) } else { word }
+    match seen {
+        Some(word) if !known => word,
+        _ => suspects(codes),
+    }
 }
 
 // A code applied after the code held at a qubit, and the reduced record. `known`: no line of the record alone
@@ -150,31 +140,27 @@ pub fn gate_known(
     qubit: u64,
     code: u8,
     known: bool,
-) -> u8
+) -> Result<(), Refusal>
     requires { Known known (used_record n neighbours.old codes.old used) }
     ensures { Call (used_call (used_record n neighbours.old codes.old used) (gate_with qubit
-        code) neighbours.new codes.new) result }
+        code) neighbours.new codes.new) (number_of result) }
 {
     let sixteen = bit_at(used, qubit);
     let seen = first_look(codes, known);
-    let early = in_place_number(
+    in_place_number(
         n,
         neighbours,
         codes,
         used,
-        true,
-        seen.over,
+        Some(seen.is_none()),
         24 <= code,
         n <= qubit,
         sixteen,
         known,
-    );
-    if early != 0 {
-        return early;
-    }
-    let touched = found(codes, known, seen.suspects);
+    )?;
+    let touched = found(codes, known, seen);
     gate_record(neighbours, codes, qubit as usize, code, touched);
-    0
+    Ok(())
 }
 
 // CZ on two qubits, and the reduced record.
@@ -186,36 +172,55 @@ pub fn cz_known(
     a: u64,
     b: u64,
     known: bool,
-) -> u8
+) -> Result<(), Refusal>
     requires { Known known (used_record n neighbours.old codes.old used) }
     ensures { Call (used_call (used_record n neighbours.old codes.old used) (cz_on a b)
-        neighbours.new codes.new) result }
+        neighbours.new codes.new) (number_of result) }
 {
     let eight = (n <= a) | ((n <= b) | (a == b));
     let sixteen = bit_at(used, a) | bit_at(used, b);
     let seen = first_look(codes, known);
-    let early = in_place_number(
-        n, neighbours, codes, used, true, seen.over, false, eight, sixteen, known,
-    );
-    if early != 0 {
-        return early;
-    }
-    let touched = found(codes, known, seen.suspects);
+    in_place_number(
+        n,
+        neighbours,
+        codes,
+        used,
+        Some(seen.is_none()),
+        false,
+        eight,
+        sixteen,
+        known,
+    )?;
+    let touched = found(codes, known, seen);
     cz_record(neighbours, codes, a as usize, b as usize, touched);
-    0
+    Ok(())
 }
 
 // The same where nothing is known of the record.
-pub fn gate(n: u64, neighbours: &mut [u64], codes: &mut [u8], used: u64, qubit: u64, code: u8) -> u8
+pub fn gate(
+    n: u64,
+    neighbours: &mut [u64],
+    codes: &mut [u8],
+    used: u64,
+    qubit: u64,
+    code: u8,
+) -> Result<(), Refusal>
     ensures { Call (used_call (used_record n neighbours.old codes.old used) (gate_with qubit
-        code) neighbours.new codes.new) result }
+        code) neighbours.new codes.new) (number_of result) }
 {
     gate_known(n, neighbours, codes, used, qubit, code, false)
 }
 
-pub fn cz(n: u64, neighbours: &mut [u64], codes: &mut [u8], used: u64, a: u64, b: u64) -> u8
+pub fn cz(
+    n: u64,
+    neighbours: &mut [u64],
+    codes: &mut [u8],
+    used: u64,
+    a: u64,
+    b: u64,
+) -> Result<(), Refusal>
     ensures { Call (used_call (used_record n neighbours.old codes.old used) (cz_on a b)
-        neighbours.new codes.new) result }
+        neighbours.new codes.new) (number_of result) }
 {
     cz_known(n, neighbours, codes, used, a, b, false)
 }

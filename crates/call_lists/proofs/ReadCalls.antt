@@ -3,12 +3,9 @@ use mathlib.Core.Bool.{false, true, ◌||◌}
 use mathlib.Core.List.{◌++◌, List}
 use mathlib.Core.Path.{ap, refl, subst, sym, ◌∙◌, ◌≡◌}
 use Prim.Native.Nat.{ℕ, ◌≤◌}
-use native.Mathlib.Omega.{arith}
-use lib.ListN.{get_or, length, length-take, take}
-use lib.Seq.{get_or-take}
+use lib.ListN.{length, take}
 use borrow.Author.Tests.{not-false}
 use Rattle.calls.proofs.ListedNumbers.{listed-number}
-use Rattle.buffers.proofs.Tabulate.{tabulate-at, tabulate-cong, tabulate-length}
 use Rattle.buffers.specs.Buffers.{tabulate}
 use Rattle.buffers.specs.Refusals.{bad_count, first_fitting, other_than}
 use Rattle.buffers.proofs.Calling.{done, refused}
@@ -24,13 +21,6 @@ use Rattle.text.specs.Strings.{text_size}
 use Rattle.text_strings.specs.internal.Generators.{LinesFit}
 use Rattle.words.proofs.Flags.{neither}
 use Rattle.calls.specs.Strings.{read_strings_call}
-
--- ---- an array whose first n places are a table
-pub part_of : (n : ℕ) (array : List ℕ) (f : ℕ → ℕ) → take n array ≡ tabulate n f → n ≡ length (take n array)
-part_of n array f e = sym (ap length e ∙ tabulate-length n f)
-
-pub part_room : (n : ℕ) (array : List ℕ) (f : ℕ → ℕ) → take n array ≡ tabulate n f → n ≤ length array
-part_room n array f e = omega (arith, part_of n array f e, length-take n array)
 
 -- what it means that lines 1, 2 and 4 do not hold of a text, which has n lines
 pub record Formed (t signs zs xs : List ℕ) (n : ℕ) : Type 0 where
@@ -98,14 +88,11 @@ module _ (t signs zs xs : List ℕ) (n : ℕ) (c : string_form t ≡ true → n 
 
       -- a copy of the array's first places
       copied : (old array : List ℕ) (f : ℕ → ℕ) {new : List ℕ} → length old ≡ n → take n array ≡ tabulate n f →
-          new ≡ tabulate (length old) (λ j. get_or array j 0) → new ≡ tabulate n f
-      copied old array f l h p =
-          p ∙ ap (λ m. tabulate m (λ j. get_or array j 0)) l
-          ∙ tabulate-cong n (λ j. get_or array j 0) f
-          (λ j b. sym (get_or-take n array j 0 b) ∙ ap (λ a. get_or a j 0) h ∙ tabulate-at n f j b)
+          new ≡ take (length old) array → new ≡ tabulate n f
+      copied old array f l h p = p ∙ ap (λ m. take m array) l ∙ h
 
-      pub read_done : v ≡ 0 → {s' z' x' : List ℕ} → s' ≡ tabulate (length signs) (λ j. get_or s₁ j 0) →
-          z' ≡ tabulate (length zs) (λ j. get_or z₁ j 0) → x' ≡ tabulate (length xs) (λ j. get_or x₁ j 0) →
+      pub read_done : v ≡ 0 → {s' z' x' : List ℕ} → s' ≡ take (length signs) s₁ →
+          z' ≡ take (length zs) z₁ → x' ≡ take (length xs) x₁ →
           Call (read_strings_call t signs zs xs s' z' x') 0
       read_done y {s'} {z'} {x'} ps pz px =
           done _ at_call y (

@@ -4,25 +4,27 @@
 pub mod product;
 pub mod strings;
 
+ghost use Rattle.buffers.specs.internal.Numbers.{number_of};
 ghost use Rattle.buffers.specs.Calls.{Call};
 ghost use Rattle.calls.specs.Lists.{check_call, reduce_unused_call};
 ghost use Rattle.calls.specs.internal.Reductions.{reduce_call};
 
 use buffers::other_than;
+use buffers::refusals::Refusal;
 use record_reduction::reduce_list;
 use stabilizer_impl::checks::early_refusal;
 use stabilizer_impl::independence::independent;
 
 // Lines 2, 4, 5, 6, 9 and 10 of a generator list.
-pub fn check(n: u64, signs: &[u8], z: &[u64], x: &[u64]) -> u8
+pub fn check(n: u64, signs: &[u8], z: &[u64], x: &[u64]) -> Result<(), Refusal>
     ensures { Call (check_call
-        (record { n = n; signs = signs.now; z = z.now; x = x.now })) result }
+        (record { n = n; signs = signs.now; z = z.now; x = x.now })) (number_of result) }
 {
-    let early = early_refusal(n, signs, z, x, false);
-    if early != 0 {
-        return early;
+    early_refusal(n, signs, z, x, false)?;
+    if !independent(n as usize, z, x) {
+        return Err(Refusal::Dependent);
     }
-    if independent(n as usize, z, x) { 0 } else { 10 }
+    Ok(())
 }
 
 // The reduced record of a generator list.
@@ -33,21 +35,18 @@ pub fn reduce(
     x: &[u64],
     neighbours: &mut [u64],
     codes: &mut [u8],
-) -> u8
+) -> Result<(), Refusal>
     ensures { Call (reduce_call
         (record { n = n; signs = signs.now; z = z.now; x = x.now })
-        neighbours.old codes.old neighbours.new codes.new) result }
+        neighbours.old codes.old neighbours.new codes.new) (number_of result) }
 {
     let others = other_than(neighbours.len(), n) | other_than(codes.len(), n);
-    let early = early_refusal(n, signs, z, x, others);
-    if early != 0 {
-        return early;
-    }
+    early_refusal(n, signs, z, x, others)?;
     let count = n as usize;
     if reduce_list(count, signs, z, x, neighbours, codes) {
-        0
+        Ok(())
     } else {
-        10
+        Err(Refusal::Dependent)
     }
 }
 
@@ -60,16 +59,13 @@ pub fn reduce_unused(
     neighbours: &mut [u64],
     codes: &mut [u8],
     used: &mut u64,
-) -> u8
+) -> Result<(), Refusal>
     ensures { Call (reduce_unused_call
         (record { n = n; signs = signs.now; z = z.now; x = x.now })
         neighbours.old codes.old used.old
-        neighbours.new codes.new used.new) result }
+        neighbours.new codes.new used.new) (number_of result) }
 {
-    let number = reduce(n, signs, z, x, neighbours, codes);
-    if number != 0 {
-        return number;
-    }
+    reduce(n, signs, z, x, neighbours, codes)?;
     *used = 0;
-    0
+    Ok(())
 }

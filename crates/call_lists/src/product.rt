@@ -1,4 +1,5 @@
 // The public call on products of rows, which need neither commute nor be independent.
+ghost use Rattle.buffers.specs.internal.Numbers.{number_of};
 ghost use Rattle.std.specs.Prelude.{◌≡◌, ◌<◌, get_or, length};
 ghost use Rattle.buffers.specs.Calls.{Call};
 ghost use Rattle.buffers.specs.Refusals.{first_fitting};
@@ -7,27 +8,25 @@ ghost use Rattle.pauli.specs.internal.Rows.{pauli_of};
 ghost use Rattle.calls.specs.Products.{chosen_product, product_call, product_lines};
 ghost use Rattle.words.specs.Bits.{is_odd};
 
+use buffers::refusals::{Refusal, refuses_shape};
 use pauli::Row;
 use stabilizer_impl::checks::form_refusal;
 use words::{has, stray};
 
-// The first line that holds; 0 where none does. Lines 2 and 4 come before the test of the word that chooses, 6 after
+// The first line that holds; `Ok` where none does. Lines 2 and 4 come before the test of the word that chooses, 6 after
 // it.
-fn product_refusal(n: u64, signs: &[u8], z: &[u64], x: &[u64], chosen: u64) -> u8
-    ensures { result ≡ first_fitting (product_lines
+fn product_refusal(n: u64, signs: &[u8], z: &[u64], x: &[u64], chosen: u64) -> Result<(), Refusal>
+    ensures { number_of result ≡ first_fitting (product_lines
         (record { n = n; signs = signs.now; z = z.now; x = x.now }) chosen) }
 {
-    let number = form_refusal(n, signs, z, x, false);
-    if number == 2 {
-        return number;
-    }
-    if number == 4 {
-        return number;
+    let form = form_refusal(n, signs, z, x, false);
+    if refuses_shape(form) {
+        return form;
     }
     if stray(chosen, n as usize) {
-        return 5;
+        return Err(Refusal::Stray);
     }
-    number
+    form
 }
 
 // Row j of a list: a minus sign is two quarter turns.
@@ -58,13 +57,11 @@ fn chosen_product(n: usize, signs: &[u8], z: &[u64], x: &[u64], chosen: u64) -> 
         z: 0,
         x: 0,
     };
-    let mut j = 0;
-    while j < n {
+    for j in 0..n {
         if has(chosen, j) {
             let row = row_at(signs, z, x, j);
             product = product.times(row);
         }
-        j += 1;
     }
     product
 }
@@ -79,19 +76,16 @@ pub fn product(
     product_z: &mut u64,
     product_x: &mut u64,
     phase: &mut u8,
-) -> u8
+) -> Result<(), Refusal>
     ensures { Call (product_call
         (record { n = n; signs = signs.now; z = z.now; x = x.now }) chosen
         product_z.old product_x.old phase.old
-        product_z.new product_x.new phase.new) result }
+        product_z.new product_x.new phase.new) (number_of result) }
 {
-    let number = product_refusal(n, signs, z, x, chosen);
-    if number != 0 {
-        return number;
-    }
+    product_refusal(n, signs, z, x, chosen)?;
     let row = chosen_product(n as usize, signs, z, x, chosen);
     *product_z = row.z;
     *product_x = row.x;
     *phase = row.phase as u8;
-    0
+    Ok(())
 }

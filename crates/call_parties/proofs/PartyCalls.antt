@@ -18,27 +18,19 @@ use Rattle.parties.proofs.MaskedRecords.{apart-record, masked-passes}
 use Rattle.parties_impl.specs.internal.BeforeEight.{Admitted, PutBack}
 use Rattle.parties.specs.PartyLines.{party_lines, names_other}
 use Rattle.parties.specs.Masks.{in_party, masked}
-use Rattle.parties.specs.internal.Apart.{PartyOp, measure-op}
+use Rattle.parties.specs.internal.Apart.{Apart, PartyOp, measure-op}
 use Rattle.operations.specs.Measurement.{determined_number, outcome_number}
 use Rattle.operations.specs.Steps.{Operation, measured_answer, measurement_of}
 use Rattle.operations.specs.Used.{used_lines_of, UsedRecord, used_record, UsedUnrefused}
 use Rattle.words.specs.Bits.{bit, word_of}
 use Rattle.calls.specs.Parties.{party_call, party_lent, party_measure_call}
 
-module _ (word g : ℕ) (u : UsedRecord) (o : Operation) (A : Admitted word g u o) where
+module _ (word g : ℕ) (u : UsedRecord) (H : Apart word u) where
   -- the record's buffers have 64 places
   pub lent-64 : (length u.held.neighbours ≡ 64) × (length u.held.codes ≡ 64)
   lent-64 =
-      let R = apart-record word u A.apart in
-      (R.neighbours-length ∙ A.apart.count, R.codes-length ∙ A.apart.count)
-
-  module _ (O : PartyOp o) where
-    -- the number is that of the call on the copy
-    pub copy-number : first_fitting (used_lines_of (masked (in_party word g) u) o) ≡ first_fitting (party_lines word g u o)
-    copy-number = sym (party-number word g u o (eq-eqb u.held.n 64 A.apart.count) A.low
-        (ap₂ ◌||◌ A.apart.no-crossing
-        (ap (λ m. names_other (in_party word g) m o) A.apart.count ∙ A.own))
-        ∙ masked-number word g u A.apart o O A.own)
+      let R = apart-record word u H in
+      (R.neighbours-length ∙ H.count, R.codes-length ∙ H.count)
 
   -- a copy of 64 qubits is one of n
   pub copied-whole : (nb cs : List ℕ) (r : ℕ)
@@ -46,13 +38,23 @@ module _ (word g : ℕ) (u : UsedRecord) (o : Operation) (A : Admitted word g u 
       ≡ masked (in_party word g) (used_record 64 u.held.neighbours u.held.codes u.used)
       → used_record u.held.n nb cs r ≡ masked (in_party word g) u
   copied-whole nb cs r = subst (λ m. used_record m nb cs r
-      ≡ masked (in_party word g) (used_record m u.held.neighbours u.held.codes u.used)) (sym A.apart.count)
+      ≡ masked (in_party word g) (used_record m u.held.neighbours u.held.codes u.used)) (sym H.count)
+
+  pub copy-unrefused : {v : UsedRecord} → v ≡ masked (in_party word g) u → UsedUnrefused v
+  copy-unrefused copied = subst UsedUnrefused (sym copied) (record { no_line = masked-passes word g u H })
+
+module _ (word g : ℕ) (u : UsedRecord) (o : Operation) (A : Admitted word g u o) where
+  module _ (O : PartyOp o) where
+    -- the number is that of the call on the copy
+    pub copy-number : first_fitting (used_lines_of (masked (in_party word g) u) o)
+        ≡ first_fitting (party_lines word g u o)
+    copy-number = sym (party-number word g u o (eq-eqb u.held.n 64 A.apart.count) A.low
+        (ap₂ ◌||◌ A.apart.no-crossing
+        (ap (λ m. names_other (in_party word g) m o) A.apart.count ∙ A.own))
+        ∙ masked-number word g u A.apart o O A.own)
 
   -- the copy
   module _ {v : UsedRecord} (copied : v ≡ masked (in_party word g) u) where
-    pub copy-unrefused : UsedUnrefused v
-    copy-unrefused = subst UsedUnrefused (sym copied) (record { no_line = masked-passes word g u A.apart })
-
     -- the call on it
     module _ (O : PartyOp o) {r : ℕ} {nb cs : List ℕ} (C : Call (used_call v o nb cs) r) where
       number : r ≡ first_fitting (party_lines word g u o)
@@ -103,7 +105,8 @@ module _ (word g : ℕ) (u : UsedRecord) (pauli q b : ℕ) (A : Admitted word g 
   module _ (z : r ≡ 0) where
     on-copy : Call (used_measure_call (masked (in_party word g) u) pauli q b answer determined nb cs own answer'
         determined') r
-    on-copy = subst (λ w. Call (used_measure_call w pauli q b answer determined nb cs own answer' determined') r) copied C
+    on-copy = subst (λ w. Call (used_measure_call w pauli q b answer determined nb cs own answer' determined') r)
+        copied C
 
     same_answer : measured_answer (masked (in_party word g) u).held pauli q b ≡ measured_answer u.held pauli q b
     same_answer = sym (masked-answer word g u A.apart pauli q b A.own

@@ -93,9 +93,8 @@ module _ (word g : ℕ) (u : UsedRecord) (pauli q b : ℕ) where
             answer' determined') k) z
             (subst (λ w. Call (observe_call w pauli q b answer determined nb cs own answer' determined') r) copied C)
 
-        on-copy : Call (used_measure_call (masked (in_party word g) u) pauli q (answered u pauli q b) answer determined nb
-            cs own
-            answer' determined') 0
+        on-copy : Call (used_measure_call (masked (in_party word g) u) pauli q (answered u pauli q b) answer determined
+            nb cs own answer' determined') 0
         on-copy = subst (λ k. Call (used_measure_call (masked (in_party word g) u) pauli q k answer determined nb cs own
             answer'
             determined') 0) (sym (ap outcome_number (observed-alone word g u pauli q b passes A.apart)))

@@ -1,4 +1,5 @@
 // The public calls of a party on its four named states.
+ghost use Rattle.buffers.specs.internal.Numbers.{number_of};
 ghost use Rattle.std.specs.Prelude.{cond, ◌||◌, ◌≡◌, ltb};
 ghost use Rattle.buffers.specs.Refusals.{first_fitting};
 ghost use Rattle.buffers.specs.Calls.{Call};
@@ -9,20 +10,25 @@ ghost use Rattle.calls.specs.PartyStores.{party_forget_call, party_return_call, 
 ghost use Rattle.operations.specs.Used.{used_record};
 
 use buffers::earliest::earlier;
+use buffers::refusals::Refusal;
 use operations_checks::used_refusal;
 use parties_impl::checks::own_refusal;
 use parties_impl::masks::{crosses, merge_used, own_word};
 use parties_impl::places::{own_find, own_place_for, put_masked, take_merged};
 use store_impl::places::word_at;
 
-// Line 6: 6 where the party is above 1, else 0.
-fn party_number(party: u8) -> u8
-    ensures { result ≡ cond (ltb 1 party) 6 0 }
+// Line 6: refuses a party above 1.
+fn party_number(party: u8) -> Result<(), Refusal>
+    ensures { number_of result ≡ cond (ltb 1 party) 6 0 }
 {
-    if 1 < party { 6 } else { 0 }
+    if 1 < party {
+        Err(Refusal::Value)
+    } else {
+        Ok(())
+    }
 }
 
-// The first line of the record or of the party's places that holds; 0 where none does.
+// The first line of the record or of the party's places that holds; `Ok` where none does.
 fn both_refusal(
     n: u64,
     word: u64,
@@ -33,10 +39,10 @@ fn both_refusal(
     heads: &[u64],
     held_neighbours: &[u64],
     held_codes: &[u8],
-) -> u8
-    ensures { result ≡ first_fitting (record_tests (λ m. of_record (used_record n neighbours.now
+) -> Result<(), Refusal>
+    ensures { number_of result ≡ first_fitting (record_tests (λ m. of_record (used_record n neighbours.now
         codes.now used) m || holds_line m (own_lines (in_party word party) party (record {
-          heads = heads.entry.now;
+          heads = heads.now;
           neighbours = held_neighbours.now;
           codes = held_codes.now;
         })))) }
@@ -46,7 +52,7 @@ fn both_refusal(
     earlier(own, held)
 }
 
-// The first of the lines that save, return and forget share that holds; 0 where none does.
+// The first of the lines that save, return and forget share that holds; `Ok` where none does.
 fn shared_refusal(
     n: u64,
     word: u64,
@@ -57,16 +63,16 @@ fn shared_refusal(
     heads: &[u64],
     held_neighbours: &[u64],
     held_codes: &[u8],
-) -> u8
-    ensures { result ≡ first_fitting (shared_lines word party (used_record n neighbours.now
+) -> Result<(), Refusal>
+    ensures { number_of result ≡ first_fitting (shared_lines word party (used_record n neighbours.now
         codes.now used) (record {
-          heads = heads.entry.now;
+          heads = heads.now;
           neighbours = held_neighbours.now;
           codes = held_codes.now;
         })) }
 {
     if n != 64 {
-        return 2;
+        return Err(Refusal::Count);
     }
     let both = both_refusal(
         n,
@@ -79,11 +85,12 @@ fn shared_refusal(
         held_neighbours,
         held_codes,
     );
-    let early = earlier(both, party_number(party));
-    if early != 0 {
-        return early;
+    earlier(both, party_number(party))?;
+    if crosses(word, neighbours) {
+        Err(Refusal::OtherGroup)
+    } else {
+        Ok(())
     }
-    if crosses(word, neighbours) { 19 } else { 0 }
 }
 
 // The party's vertices saved under the name: at its place among the party's four, else at the smallest free one.
@@ -98,15 +105,15 @@ pub fn save(
     heads: &mut [u64],
     held_neighbours: &mut [u64],
     held_codes: &mut [u8],
-) -> u8
+) -> Result<(), Refusal>
     ensures { Call (party_save_call word party (used_record n neighbours.now codes.now used)
         name (record {
-          heads = heads.entry.now;
+          heads = heads.old;
           neighbours = held_neighbours.old;
           codes = held_codes.old;
-        }) heads.exit.now held_neighbours.new held_codes.new) result }
+        }) heads.new held_neighbours.new held_codes.new) (number_of result) }
 {
-    let early = shared_refusal(
+    shared_refusal(
         n,
         word,
         party,
@@ -116,14 +123,10 @@ pub fn save(
         heads,
         held_neighbours,
         held_codes,
-    );
-    if early != 0 {
-        return early;
-    }
-    let place = own_place_for(party, heads, name);
-    if 4 <= place {
-        return 18;
-    }
+    )?;
+    let Some(place) = own_place_for(party, heads, name) else {
+        return Err(Refusal::Full);
+    };
     put_masked(
         4 * (party as usize) + place,
         own_word(word, party),
@@ -135,7 +138,7 @@ pub fn save(
         held_neighbours,
         held_codes,
     );
-    0
+    Ok(())
 }
 
 // The party's vertices as they are held under the name, put back into the record; the others stay.
@@ -150,15 +153,15 @@ pub fn return_to(
     heads: &[u64],
     held_neighbours: &[u64],
     held_codes: &[u8],
-) -> u8
+) -> Result<(), Refusal>
     ensures { Call (party_return_call word party (used_record n neighbours.old codes.old
         used.old) name (record {
-          heads = heads.entry.now;
+          heads = heads.now;
           neighbours = held_neighbours.now;
           codes = held_codes.now;
-        }) neighbours.new codes.new used.new) result }
+        }) neighbours.new codes.new used.new) (number_of result) }
 {
-    let early = shared_refusal(
+    shared_refusal(
         n,
         word,
         party,
@@ -168,19 +171,15 @@ pub fn return_to(
         heads,
         held_neighbours,
         held_codes,
-    );
-    if early != 0 {
-        return early;
-    }
-    let place = own_find(party, heads, name);
-    if 4 <= place {
-        return 17;
-    }
+    )?;
+    let Some(place) = own_find(party, heads, name) else {
+        return Err(Refusal::NotHeld);
+    };
     let at = 4 * (party as usize) + place;
     let own = own_word(word, party);
     take_merged(at, own, held_neighbours, held_codes, neighbours, codes);
     *used = merge_used(own, word_at(heads, 3 * at + 2), *used);
-    0
+    Ok(())
 }
 
 // The party's place of the name made free.
@@ -195,15 +194,15 @@ pub fn forget(
     heads: &mut [u64],
     held_neighbours: &[u64],
     held_codes: &[u8],
-) -> u8
+) -> Result<(), Refusal>
     ensures { Call (party_forget_call word party (used_record n neighbours.now codes.now
         used) name (record {
-          heads = heads.entry.now;
+          heads = heads.old;
           neighbours = held_neighbours.now;
           codes = held_codes.now;
-        }) heads.exit.now) result }
+        }) heads.new) (number_of result) }
 {
-    let early = shared_refusal(
+    shared_refusal(
         n,
         word,
         party,
@@ -213,14 +212,10 @@ pub fn forget(
         heads,
         held_neighbours,
         held_codes,
-    );
-    if early != 0 {
-        return early;
-    }
-    let place = own_find(party, heads, name);
-    if 4 <= place {
-        return 17;
-    }
+    )?;
+    let Some(place) = own_find(party, heads, name) else {
+        return Err(Refusal::NotHeld);
+    };
     heads[3 * (4 * (party as usize) + place)] = 0;
-    0
+    Ok(())
 }

@@ -1,10 +1,12 @@
 -- The call on the image of a graph, from what the functions below it answer.
 use mathlib.Core.Bool.{Bool, false, ◌||◌}
 use mathlib.Core.List.{◌++◌, List}
-use mathlib.Core.Path.{ap, refl, subst, sym, ◌∙◌, ◌≡◌}
+use mathlib.Core.Path.{ap, refl, sym, ◌∙◌, ◌≡◌}
 use Prim.Native.Nat.{ℕ, ◌≤◌}
 use native.Mathlib.Omega.{arith}
-use lib.ListN.{get_or, length, take}
+use lib.ListN.{drop, get_or, length, length-append, length-drop, take}
+use Rattle.std.specs.Prelude.{Ok}
+use Rattle.std.proofs.lemmas.List.{length-take}
 use Rattle.buffers.proofs.Lines.{more-accepted, not-held}
 use Rattle.buffers.proofs.Tabulate.{tabulate-cong}
 use Rattle.buffers.specs.Buffers.{tabulate, written}
@@ -14,7 +16,6 @@ use Rattle.buffers.proofs.Fitting.{stays}
 use Rattle.buffers.specs.Calls.{Call}
 use Rattle.image_impl.specs.internal.Answer.{IsImage}
 use Rattle.image.specs.Image.{image_lines, loop_lines}
-use Rattle.image_impl.specs.declared.answer.ImageAnswer.{ImageAnswer}
 use Rattle.record.proofs.AcceptedRecords.{accepted-record}
 use Rattle.record.proofs.RecordLines.{record-numbered}
 use Rattle.record.specs.Accepted.{AcceptedRecord}
@@ -22,6 +23,12 @@ use Rattle.record.specs.Lent.{LentRecord, held_record, record_lengths, record_li
 use Rattle.stabilizer.proofs.SharedTests.{has-length}
 use Rattle.words.proofs.Flags.{neither}
 use Rattle.calls.specs.Images.{image_call}
+
+-- an array of 64 places of which the first n were lent has room for as many items
+pub put-back : (front back : List ℕ) (n m : ℕ) → length front ≡ n → n ≤ 64 → length back ≡ 64 → m ≤ 64 →
+    m ≤ length (front ++ drop n back)
+put-back front back n m f h b l =
+    omega (arith, f, h, b, l, length-append front (drop n back), length-drop n back)
 
 -- the buffers lent for the graph, the signs and the list
 module _ (l : LentRecord) (g s v : List ℕ) (count : ℕ) where
@@ -63,32 +70,35 @@ module _ (l : LentRecord) (g s v : List ℕ) (count : ℕ) where
       pub signs-upto : length s ≤ 64
       signs-upto = omega (arith, signs-fit, accepted-held.upto)
 
-      -- the answer of the image rule
-      module _ (a : ImageAnswer) (A : IsImage l.n (held_record l) a) where
-        -- the list has room for its count
-        pub list-has-room : a.count ≤ length v
-        list-has-room = subst (λ m. a.count ≤ m) (sym list-fits) A.room
+      loop-number : {r : ℕ} → r ≡ first_fitting (loop_lines l.n (held_record l)) → r ≡ first_fitting (image_lines l g s v)
+      loop-number f = at-lines (f ∙ sym
+          (more-accepted (record_lines l others false) _ (record-numbered l others false) (sym e ∙ z)))
 
-        -- 11 and 12 decide
-        loop-number : a.number ≡ first_fitting (image_lines l g s v)
-        loop-number = at-lines (A.number ∙ sym
-            (more-accepted (record_lines l others false) _ (record-numbered l others false) (sym e ∙ z)))
+      -- 11 or 12 decides
+      pub image-looped : (r : ℕ) → r ≡ first_fitting (loop_lines l.n (held_record l)) → (r ≡ 0 → ⊥) →
+          Call (image_call l g s v count g s v count) r
+      image-looped r f h = refused _ (loop-number f) h (refl, (refl, (refl, (refl, tt))))
 
-        -- 11 or 12
-        pub image-looped : (a.number ≡ 0 → ⊥) → Call (image_call l g s v count g s v count) a.number
-        image-looped h = refused _ loop-number h (refl, (refl, (refl, (refl, tt))))
+      -- the answer of the image rule: neither does
+      module _ (listed : ℕ) (graph signs list : List ℕ) (A : IsImage l.n (held_record l) (Ok listed) graph signs list)
+        where
+          counted-room : listed ≤ 96
+          counted-room = omega (arith, A.room, A.count)
 
-        -- neither: the answer is written
-        pub image-accepted : a.number ≡ 0 → (g' s' v' : List ℕ) →
-            g' ≡ tabulate (length g) (λ j. get_or a.graph j 0) →
-            s' ≡ tabulate (length s) (λ j. get_or a.signs j 0) → v' ≡ written (take a.count a.list) v →
-            Call (image_call l g s v count g' s' v' a.count) 0
-        image-accepted y g' s' v' eg es ev =
-            done _ loop-number y (
-              eg ∙ ap (λ m. tabulate m (λ j. get_or a.graph j 0)) graph-fits ∙ tabulate-cong l.n _ _ A.graph,
-              (
-                es ∙ ap (λ m. tabulate m (λ j. get_or a.signs j 0)) signs-fit
-                    ∙ tabulate-cong l.n _ _ (A.signs y),
-                (ev ∙ ap (λ vs. written vs v) A.list, (A.count, tt)),
-              ),
-            )
+          -- the list has room for its count
+          pub front-room : length (take listed list) ≤ length v
+          front-room = omega (arith, counted-room, list-fits, length-take listed list)
+
+          -- the answer is written
+          pub image-accepted : (g' s' v' : List ℕ) → g' ≡ tabulate (length g) (λ j. get_or graph j 0) →
+              s' ≡ tabulate (length s) (λ j. get_or signs j 0) → v' ≡ written (take listed list) v →
+              Call (image_call l g s v count g' s' v' listed) 0
+          image-accepted g' s' v' eg es ev =
+              done _ (loop-number A.number) refl (
+                eg ∙ ap (λ m. tabulate m (λ j. get_or graph j 0)) graph-fits ∙ tabulate-cong l.n _ _ A.graph,
+                (
+                  es ∙ ap (λ m. tabulate m (λ j. get_or signs j 0)) signs-fit
+                      ∙ tabulate-cong l.n _ _ (A.signs refl),
+                  (ev ∙ ap (λ vs. written vs v) (ap (λ c. take c list) A.count ∙ A.list), (A.count, tt)),
+                ),
+              )

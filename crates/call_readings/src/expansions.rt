@@ -1,9 +1,11 @@
 // The public call that expands a record.
+ghost use Rattle.buffers.specs.internal.Numbers.{number_of};
 ghost use Rattle.buffers.specs.Calls.{Call};
 ghost use Rattle.calls.specs.Expansions.{expand_call};
 ghost use Rattle.operations.specs.Used.{used_record};
 
 use buffers::other_than;
+use buffers::refusals::Refusal;
 use operations_checks::used_refusal;
 use record_impl::expansion::expand_into;
 
@@ -16,17 +18,14 @@ pub fn expand(
     signs: &mut [u8],
     z: &mut [u64],
     x: &mut [u64],
-) -> u8
+) -> Result<(), Refusal>
     ensures { Call (expand_call (used_record n neighbours.now codes.now used)
         signs.old z.old x.old
-        signs.new z.new x.new) result }
+        signs.new z.new x.new) (number_of result) }
 {
     let others = other_than(signs.len(), n) | (other_than(z.len(), n) | other_than(x.len(), n));
-    let early = used_refusal(n, neighbours, codes, used, 0, others, false);
-    if early != 0 {
-        return early;
-    }
+    used_refusal(n, neighbours, codes, used, 0, others, false)?;
     let count = n as usize;
     expand_into(count, neighbours, codes, signs, z, x);
-    0
+    Ok(())
 }

@@ -1,9 +1,11 @@
 // The public call on the image of a graph.
+ghost use Rattle.buffers.specs.internal.Numbers.{number_of};
 ghost use Rattle.buffers.specs.Calls.{Call};
 ghost use Rattle.calls.specs.Images.{image_call};
 ghost use Rattle.record.specs.Lent.{lent_record};
 
-use buffers::{copy_bytes, copy_list, copy_words, other_than};
+use buffers::refusals::Refusal;
+use buffers::{copy_first, copy_front, other_than};
 use image_impl::answer::image_in;
 use record_impl::checks::record_refusal;
 
@@ -16,35 +18,29 @@ pub fn image(
     signs: &mut [u8],
     list: &mut [u8],
     count: &mut u64,
-) -> u8
+) -> Result<(), Refusal>
     ensures { Call (image_call
         (lent_record n neighbours.now codes.now)
         image.old signs.old list.old count.old
-        image.new signs.new list.new count.new) result }
+        image.new signs.new list.new count.new) (number_of result) }
 {
     let others = other_than(image.len(), n)
         | (other_than(signs.len(), n) | other_than(list.len(), 96));
-    let early = record_refusal(n, neighbours, codes, others, false);
-    if early != 0 {
-        return early;
-    }
+    record_refusal(n, neighbours, codes, others, false)?;
     let k = n as usize;
     let mut graph = [0u64; 64];
     let mut minus = [0u8; 64];
     let mut vertices = [0u8; 96];
-    let told = image_in(
+    let listed = image_in(
         neighbours,
         codes,
         &mut graph[..k],
         &mut minus[..k],
         &mut vertices,
-    );
-    if told.number != 0 {
-        return told.number;
-    }
-    copy_words(graph, image);
-    copy_bytes(minus, signs);
-    copy_list(vertices, told.count, list);
-    *count = told.count as u64;
-    0
+    )?;
+    copy_first(&graph, image);
+    copy_first(&minus, signs);
+    copy_front(&vertices[..listed], list);
+    *count = listed as u64;
+    Ok(())
 }

@@ -1,8 +1,8 @@
 -- Answers with a mark: the last mark of a run tells whether the record waits after it.
-use mathlib.Core.Bool.{Bool, cond, false, true}
+use mathlib.Core.Bool.{Bool, false, true}
 use mathlib.Core.List.{◌++◌, List, [], ◌∷◌}
 use mathlib.Core.Path.{◌∙◌, ◌≡◌, ap, refl, subst, sym}
-use Prim.Native.Nat.{◌*◌, ◌+◌, ◌-◌, ◌<◌, ◌≤◌, suc, zero, ℕ}
+use Prim.Native.Nat.{◌*◌, ◌+◌, ◌<◌, ◌≤◌, suc, zero, ℕ}
 use native.Mathlib.Nat.{le_of_suc-le-suc, not-suc-le-zero, suc-add, zero-add}
 use native.Mathlib.Omega.{arith}
 use lib.Dec.{leb}
@@ -27,19 +27,7 @@ small-answer u s r e = subst SmallAnswer (sym e) (record {
   determined = (outcome-small u s).1;
 })
 
--- ---- the mark of an answer, and the mark before a place
-pub mark-small : (b : Bool) → cond b 128 0 ≤ 128
-mark-small true = omega arith
-mark-small false = omega arith
-
-pub none_before : (place : ℕ) (answers : List ℕ) → place ≡ 0 → false ≡ marked_before place answers
-none_before place answers z = ap (λ k. marked_before k answers) (sym z)
-
-pub one-before : (place : ℕ) (answers : List ℕ) → (place ≡ 0 → ⊥)
-    → leb 128 (get_or answers (place - 1) 0) ≡ marked_before place answers
-one-before zero answers h = absurd (h refl)
-one-before (suc k) answers h = ap (λ j. leb 128 (get_or answers j 0)) {x = suc k - 1} {y = k} (omega arith)
-
+-- ---- the mark of an answer
 -- the mark can be told
 pub mark-told : (b : Bool) (r : Answer) → SmallAnswer r → leb 128 (packed b r) ≡ b
 mark-told true r S = le-leb 128 (128 + (r.refusal * 4 + r.outcome * 2 + r.determined)) (omega arith)

@@ -33,7 +33,7 @@ use Rattle.jobs.specs.Runs.{
 }
 use Rattle.jobs.specs.declared.Answer.{Answer}
 use Rattle.jobs.specs.declared.Op.{Op}
-use Rattle.jobs.specs.declared.Op.TheVariants.{Measure, Observe, Renew}
+use Rattle.jobs.specs.declared.Op.TheVariants.{Gate, Measure, Observe, Renew}
 use Rattle.jobs.specs.declared.Step.{Step}
 use Rattle.operations.specs.Steps.{Operation, leaves, measurement_of}
 use Rattle.calls.proofs.InPlaceCalls.{left-by-call, marked-by-call}
@@ -45,7 +45,7 @@ use Rattle.source.proofs.Observed.{answered}
 use Rattle.source.specs.Renewal.{renewed}
 use Rattle.words.proofs.Flags.{neither}
 use Rattle.jobs.proofs.WrongFields.{fields-refuse}
-use Rattle.call_run.specs.internal.StepRuns.{NoOutcome, Plain, Rewriting, StepRun}
+use Rattle.call_run.specs.internal.StepRuns.{NoOutcome, Plain, StepRun}
 
 abbrev answer : ℕ → ℕ → ℕ → Answer
 answer k o d = record { refusal = k; outcome = o; determined = d }
@@ -86,15 +86,8 @@ module _ (u : UsedRecord) (s : Step) where
   pub photon-small : wrong ≡ false → s.op ≡ Renew → s.value < 12
   photon-small e g = leb-false 12 s.value (value-right e g)
 
-  pub rewriting : wrong ≡ false → (s.op ≡ Measure → ⊥) → (s.op ≡ Observe → ⊥) → (s.op ≡ Renew → ⊥)
-      → Rewriting s.op s.value
-  rewriting e m o r =
-      record {
-        code = λ g. leb-false 24 s.value (value-right e g);
-        no-measure = m;
-        no-observe = o;
-        no-renew = r;
-      }
+  pub gate-small : wrong ≡ false → s.op ≡ Gate → s.value < 24
+  gate-small e g = leb-false 24 s.value (value-right e g)
 
   -- the fields alone are wrong
   -- what it asks, where the operation is known

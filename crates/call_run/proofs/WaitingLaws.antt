@@ -14,7 +14,7 @@ use Rattle.calls.proofs.InPlaceLines.{gate-ready, measure-ready}
 use Rattle.calls.proofs.MeasureLines.{arguments-before, measure-passes, then-14, then-none}
 use Rattle.calls.proofs.UsedInPlace.{named-as, record-refused, then-0, then-16, then-8}
 use Rattle.calls.specs.InPlace.{used_call, used_measure_call}
-use Rattle.calls.specs.Sources.{observe_call, renew_call}
+use Rattle.calls.specs.Sources.{observe_call}
 use Rattle.calls.specs.internal.InPlace.{used_in_place}
 use Rattle.clifford.specs.Clifford.{clifford_of}
 use Rattle.buffers.proofs.Calling.{done, refused}
@@ -480,8 +480,3 @@ numbered v U six eight {sixteen = t} e f = named-as v six eight (e ∙ argument-
 pub call-as : (u v : UsedRecord) (o : Operation) (words' codes' : List ℕ) (k : ℕ) → u ≡ v
     → Call (used_call u o words' codes') k → Call (used_call v o words' codes') k
 call-as u v o words' codes' k e C = subst (λ t. Call (used_call t o words' codes') k) e C
-
--- a renewal likewise
-pub renewal-as : (u v : UsedRecord) (q c : ℕ) (words' codes' : List ℕ) (used' k : ℕ) → u ≡ v
-    → Call (renew_call u q c words' codes' used') k → Call (renew_call v q c words' codes' used') k
-renewal-as u v q c words' codes' used' k e C = subst (λ t. Call (renew_call t q c words' codes' used') k) e C

@@ -1,9 +1,11 @@
 // What the call over many steps checks, and its answers told apart.
+ghost use Rattle.buffers.specs.internal.Numbers.{number_of};
 ghost use Rattle.std.specs.Prelude.{false, not, ◌||◌, ◌∷◌, ◌≡◌, ◌%◌, ◌/◌, eqb, ltb, get_or, length};
 ghost use Rattle.buffers.specs.Buffers.{tabulate};
 ghost use Rattle.buffers.specs.Refusals.{first_fitting, line, reaching};
 ghost use Rattle.operations.specs.Used.{used_lines, used_record};
 
+use buffers::refusals::Refusal;
 use buffers::{other_than, reaches};
 use operations_checks::used_refusal;
 
@@ -15,7 +17,7 @@ pub fn one_other_than(count: usize, first: usize, second: usize, third: usize) -
     other_than(first, m) | (other_than(second, m) | other_than(third, m))
 }
 
-// The number of the first line that holds; `others`: the slices' lengths differ.
+// The first line that holds; `others`: the slices' lengths differ.
 pub fn run_refusal(
     n: u64,
     neighbours: &[u64],
@@ -23,13 +25,13 @@ pub fn run_refusal(
     used: u64,
     ops: &[u8],
     others: bool,
-) -> u8
-    ensures { result ≡ first_fitting (line 15 (ltb 4096 (length ops.now)) ∷ used_lines
+) -> Result<(), Refusal>
+    ensures { number_of result ≡ first_fitting (line 15 (ltb 4096 (length ops.now)) ∷ used_lines
         (used_record n neighbours.now codes.now used) others false
         (reaching 7 ops.now)) }
 {
     if 4096 < ops.len() {
-        return 15;
+        return Err(Refusal::Steps);
     }
     let six = reaches(ops, 7);
     used_refusal(n, neighbours, codes, used, 0, others, six)
@@ -46,12 +48,10 @@ pub fn unpack(answers: &mut [u8], outcomes: &mut [u8], determined: &mut [u8])
         × (determined.new
         ≡ tabulate (length answers.old) (λ k. get_or answers.old k 0 % 2)) }
 {
-    let mut k = 0;
-    while k < answers.len() {
+    for k in 0..answers.len() {
         let p = answers[k];
         answers[k] = p / 4 % 32;
         outcomes[k] = p / 2 % 2;
         determined[k] = p % 2;
-        k += 1;
     }
 }

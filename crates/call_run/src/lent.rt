@@ -1,5 +1,5 @@
 // Runs the steps of a lent slice on a lent record in place, and keeps what each answers as one number.
-ghost use Rattle.std.specs.Prelude.{cond, [], ◌∷◌, ◌≡◌, ◌+◌, ◌<◌, ◌≤◌, length, take};
+ghost use Rattle.std.specs.Prelude.{cond, [], ◌∷◌, ◌≡◌, ◌+◌, ◌<◌, ◌≤◌, length};
 ghost use Rattle.call_run.specs.internal.Waiting.{meant};
 ghost use Rattle.call_run.specs.internal.StepRuns.{leaves_reduced, next_waiting};
 ghost use Rattle.call_run.specs.internal.LentRuns.{ReadyAt, SmallAnswer, WaitingRun};
@@ -14,15 +14,7 @@ use jobs::{Answer, Op, Step};
 fn leaves_reduced(op: Op) -> bool
     ensures { result ≡ leaves_reduced op }
 {
-    match op {
-        Op::Gate => true,
-        Op::Cz => true,
-        Op::Measure => true,
-        Op::Complement => false,
-        Op::Pivot => false,
-        Op::Observe => true,
-        Op::Renew => false,
-    }
+    matches!(op, Op::Gate | Op::Cz | Op::Measure | Op::Observe)
 }
 
 // Whether the record waits to be reduced after a step.
@@ -106,52 +98,10 @@ pub fn run_lent(
         answers.new }
 {
     let mut word = used;
-    let mut k = 0;
-    while k < steps.len() {
+    for k in 0..steps.len() {
         word = turn(n, neighbours, codes, word, steps[k], at, k, answers);
-        k += 1;
     }
     word
-}
-
-// The first steps of a block, lent.
-pub fn run_block(
-    n: u64,
-    neighbours: &mut [u64],
-    codes: &mut [u8],
-    used: u64,
-    steps: [Step; 64],
-    count: usize,
-    at: usize,
-    answers: &mut [u8],
-) -> u64
-    requires { (count ≤ 64) × ((at + count ≤ length answers.old) × ReadyAt at answers.old
-        (used_record n neighbours.old codes.old used)) }
-    ensures { WaitingRun (used_record n neighbours.old codes.old used) (take count steps)
-        at answers.old neighbours.new codes.new result
-        answers.new }
-{
-    run_lent(n, neighbours, codes, used, &steps[..count], at, answers)
-}
-
-// The first steps of a job, lent whole.
-pub fn run_steps(
-    n: u64,
-    neighbours: &mut [u64],
-    codes: &mut [u8],
-    used: u64,
-    steps: [Step; 4096],
-    count: usize,
-    at: usize,
-    answers: &mut [u8],
-) -> u64
-    requires { (count ≤ 4096) × ((at + count ≤ length answers.old) × ReadyAt at answers.old
-        (used_record n neighbours.old codes.old used)) }
-    ensures { WaitingRun (used_record n neighbours.old codes.old used) (take count steps)
-        at answers.old neighbours.new codes.new result
-        answers.new }
-{
-    run_lent(n, neighbours, codes, used, &steps[..count], at, answers)
 }
 
 // The record that is meant after the steps, in the buffers.

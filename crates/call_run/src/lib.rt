@@ -7,12 +7,14 @@ mod numbers;
 mod steps;
 mod waiting;
 
+ghost use Rattle.buffers.specs.internal.Numbers.{number_of};
 ghost use Rattle.buffers.specs.Calls.{Call};
 ghost use Rattle.calls.specs.Runs.{run_call};
 ghost use Rattle.operations.specs.Used.{used_record};
 
 use crate::checks::{one_other_than, run_refusal, unpack};
 use crate::numbers::run_numbers;
+use buffers::refusals::Refusal;
 
 // Steps on a record in place, one after the other: the record is looked at once, and what each step answers is written.
 pub fn run(
@@ -27,7 +29,7 @@ pub fn run(
     refusals: &mut [u8],
     outcomes: &mut [u8],
     determined: &mut [u8],
-) -> u8
+) -> Result<(), Refusal>
     ensures { Call (run_call (used_record n neighbours.old codes.old used.old)
         (record {
           ops = ops.now;
@@ -38,20 +40,17 @@ pub fn run(
           outcomes = outcomes.old;
           determined = determined.old;
         }) neighbours.new codes.new used.new
-        refusals.new outcomes.new determined.new) result }
+        refusals.new outcomes.new determined.new) (number_of result) }
 {
     let count = ops.len();
     let asked = one_other_than(count, a.len(), b.len(), value.len());
     let answered = one_other_than(count, refusals.len(), outcomes.len(), determined.len());
     let word = *used;
-    let early = run_refusal(n, neighbours, codes, word, ops, asked | answered);
-    if early != 0 {
-        return early;
-    }
+    run_refusal(n, neighbours, codes, word, ops, asked | answered)?;
     let next = run_numbers(
         n, neighbours, codes, word, count, ops, a, b, value, refusals,
     );
     *used = next;
     unpack(refusals, outcomes, determined);
-    0
+    Ok(())
 }

@@ -6,7 +6,7 @@ ghost use Rattle.jobs.specs.internal.Parallel.{OneLength};
 ghost use Rattle.call_run.specs.internal.LentRuns.{LentRun};
 ghost use Rattle.operations.specs.Used.{used_record, UsedUnrefused};
 
-use crate::lent::{run_block, settle_last};
+use crate::lent::{run_lent, settle_last};
 use jobs::{Op, Step, op_of};
 
 // Step k of the slices.
@@ -44,24 +44,11 @@ fn block_at(
         value: 0,
     };
     let mut steps = [none; 64];
-    let mut k = 0;
-    while k < count {
+    for k in 0..count {
         let s = step_at(ops, a, b, value, from + k);
         steps[k] = s;
-        k += 1;
     }
     steps
-}
-
-// How many steps the next block has.
-fn block_length(left: usize) -> usize
-    requires { 1 ≤ left }
-    ensures { (1 ≤ result) × (result ≤ left) × (result ≤ 64) }
-{
-    if left < 64 {
-        return left;
-    }
-    64
 }
 
 // The first steps of the slices, on a record in place that no line refuses. A step leaves such a record, and none looks at
@@ -86,10 +73,11 @@ pub fn run_numbers(
 {
     let mut word = used;
     let mut k = 0;
+    // No range or chunks: four slices go along by blocks, as far as `count`, and k is the place of the answers too.
     while k < count {
-        let m = block_length(count - k);
+        let m = (count - k).min(64);
         let block = block_at(ops, a, b, value, k, m);
-        word = run_block(n, neighbours, codes, word, block, m, k, answers);
+        word = run_lent(n, neighbours, codes, word, &block[..m], k, answers);
         k += m;
     }
     settle_last(n, neighbours, codes, word, count, answers);

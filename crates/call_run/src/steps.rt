@@ -1,16 +1,29 @@
 // Runs a step on a lent record in place.
-ghost use Rattle.std.specs.Prelude.{◌%◌, ◌+◌, ◌/◌, ◌<◌};
+ghost use Rattle.buffers.specs.internal.Numbers.{number_of};
+ghost use Rattle.std.specs.Prelude.{◌%◌, ◌+◌, ◌/◌, ◌<◌, ◌≡◌};
 ghost use Rattle.buffers.specs.Calls.{Call};
 ghost use Rattle.calls.specs.Sources.{renew_call};
 ghost use Rattle.call_run.specs.internal.Waiting.{MeasuredStep, ObservedStep, Standing, meant};
-ghost use Rattle.call_run.specs.internal.StepRuns.{NoOutcome, Rewriting, WaitedCall, WaitedStep};
+ghost use Rattle.call_run.specs.internal.StepRuns.{NoOutcome, WaitedStep};
 ghost use Rattle.operations.specs.Used.{used_record};
 
 use crate::waiting::{
     complement_waiting, cz_waiting, gate_waiting, measure_waiting, observe_waiting, pivot_waiting,
-    renew_waiting,
+    refused, renew_waiting,
 };
+use buffers::refusals::{Refusal, number_of};
 use jobs::{Answer, Op, Step, unused_set, wrong_value};
+
+// What a step without outcome answers.
+fn plain(answer: Result<(), Refusal>) -> Answer
+    ensures { result ≡ record { refusal = number_of answer; outcome = 0; determined = 0 } }
+{
+    Answer {
+        refusal: number_of(answer),
+        outcome: 0,
+        determined: 0,
+    }
+}
 
 // A measurement with the value 2 × (Pauli − 1) + outcome, on a record that may wait to be reduced.
 fn measure_value(
@@ -72,40 +85,7 @@ fn renew_value(
         codes.old used.old)) qubit value neighbours.new codes.new
         used.new) result.refusal }
 {
-    let refusal = renew_waiting(n, neighbours, codes, used, qubit, value as u8, waiting);
-    Answer {
-        refusal,
-        outcome: 0,
-        determined: 0,
-    }
-}
-
-// The operations without outcome that copy the used word, on a record that may wait to be reduced.
-fn rewrite(
-    n: u64,
-    neighbours: &mut [u64],
-    codes: &mut [u8],
-    used: u64,
-    op: Op,
-    a: u64,
-    b: u64,
-    value: u16,
-    waiting: bool,
-) -> u8
-    requires rewriting { Rewriting op value }
-    requires standing { Standing waiting (used_record n neighbours.old codes.old used) }
-    ensures { WaitedCall waiting (used_record n neighbours.old codes.old used) op a b
-        value neighbours.new codes.new result }
-{
-    match op {
-        Op::Gate => gate_waiting(n, neighbours, codes, used, a, value as u8, waiting),
-        Op::Cz => cz_waiting(n, neighbours, codes, used, a, b, waiting),
-        Op::Complement => complement_waiting(n, neighbours, codes, used, a, waiting),
-        Op::Pivot => pivot_waiting(n, neighbours, codes, used, a, b, waiting),
-        Op::Measure => 0,
-        Op::Observe => 0,
-        Op::Renew => 0,
-    }
+    plain(renew_waiting(n, neighbours, codes, used, qubit, value as u8, waiting))
 }
 
 // One step on a record that no line refuses. `waiting`: it stands for the reduced record of its group.
@@ -125,28 +105,17 @@ pub fn run_step(
     let value = s.value;
     let word = *used;
     if unused_set(op, s.b, value) | wrong_value(op, value) {
-        return Answer {
-            refusal: 6,
-            outcome: 0,
-            determined: 0,
-        };
+        return refused(Refusal::Value);
     }
     let a = s.a as u64;
-    if let Op::Measure = op {
-        return measure_value(n, neighbours, codes, used, a, value, waiting);
-    }
-    if let Op::Observe = op {
-        return observe_value(n, neighbours, codes, used, a, value, waiting);
-    }
-    if let Op::Renew = op {
-        return renew_value(n, neighbours, codes, used, a, value, waiting);
-    }
-    let refusal = rewrite(
-        n, neighbours, codes, word, op, a, s.b as u64, value, waiting,
-    );
-    Answer {
-        refusal,
-        outcome: 0,
-        determined: 0,
+    let b = s.b as u64;
+    match op {
+        Op::Gate => plain(gate_waiting(n, neighbours, codes, word, a, value as u8, waiting)),
+        Op::Cz => plain(cz_waiting(n, neighbours, codes, word, a, b, waiting)),
+        Op::Complement => plain(complement_waiting(n, neighbours, codes, word, a, waiting)),
+        Op::Pivot => plain(pivot_waiting(n, neighbours, codes, word, a, b, waiting)),
+        Op::Measure => measure_value(n, neighbours, codes, used, a, value, waiting),
+        Op::Observe => observe_value(n, neighbours, codes, used, a, value, waiting),
+        Op::Renew => renew_value(n, neighbours, codes, used, a, value, waiting),
     }
 }

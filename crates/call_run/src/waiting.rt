@@ -1,4 +1,5 @@
 // Steps on a lent record that stands for the reduced record of its group: it is reduced only where that is wanted.
+ghost use Rattle.buffers.specs.internal.Numbers.{number_of, refusal_number};
 ghost use Rattle.std.specs.Prelude.{cond, ◌≡◌};
 ghost use Rattle.buffers.specs.Refusals.{first_fitting};
 ghost use Rattle.calls.specs.InPlace.{used_call};
@@ -8,6 +9,7 @@ ghost use Rattle.operations.specs.Steps.{complement_of, cz_on, gate_with, measur
 ghost use Rattle.operations.specs.Used.{used_lines_of, used_record};
 ghost use Rattle.call_run.specs.internal.Waiting.{MeasuredStep, ObservedStep, Standing, Stepped, meant};
 
+use buffers::refusals::Refusal;
 use call_gates::complement::{complement_known, pivot_known};
 use call_source::renew_known;
 use jobs::Answer;
@@ -17,17 +19,17 @@ use operations_gates::unsettled::{cz_unsettled, gate_unsettled};
 use operations_measurement::{contradicted, measure_unsettled};
 use words::{bit_at, single};
 
-// The number of the first line of a step that holds, where none of the record's does.
-fn argument_number(six: bool, eight: bool, sixteen: bool) -> u8
-    ensures { result ≡ cond six 6 (cond eight 8 (cond sixteen 16 0)) }
+// The first line of a step that holds, where none of the record's does.
+fn argument_number(six: bool, eight: bool, sixteen: bool) -> Result<(), Refusal>
+    ensures { number_of result ≡ cond six 6 (cond eight 8 (cond sixteen 16 0)) }
 {
     if six {
-        return 6;
+        return Err(Refusal::Value);
     }
     if eight {
-        return 8;
+        return Err(Refusal::Qubit);
     }
-    if sixteen { 16 } else { 0 }
+    if sixteen { Err(Refusal::Used) } else { Ok(()) }
 }
 
 // A code applied after the code held at a qubit. `waiting`: the record stands for the reduced one of its group.
@@ -39,18 +41,15 @@ pub fn gate_waiting(
     qubit: u64,
     code: u8,
     waiting: bool,
-) -> u8
+) -> Result<(), Refusal>
     requires { Standing waiting (used_record n neighbours.now codes.old used) }
     ensures { Stepped waiting (used_record n neighbours.now codes.old used)
-        (gate_with qubit code) neighbours.now codes.new result }
+        (gate_with qubit code) neighbours.now codes.new (number_of result) }
 {
     let sixteen = bit_at(used, qubit);
-    let early = argument_number(24 <= code, n <= qubit, sixteen);
-    if early != 0 {
-        return early;
-    }
+    argument_number(24 <= code, n <= qubit, sixteen)?;
     gate_unsettled(neighbours, codes, qubit as usize, code);
-    0
+    Ok(())
 }
 
 // CZ on two qubits.
@@ -62,22 +61,19 @@ pub fn cz_waiting(
     a: u64,
     b: u64,
     waiting: bool,
-) -> u8
+) -> Result<(), Refusal>
     requires { Standing waiting (used_record n neighbours.old codes.old used) }
     ensures { Stepped waiting (used_record n neighbours.old codes.old used) (cz_on a b)
-        neighbours.new codes.new result }
+        neighbours.new codes.new (number_of result) }
 {
     let eight = (n <= a) | ((n <= b) | (a == b));
     let sixteen = bit_at(used, a) | bit_at(used, b);
-    let early = argument_number(false, eight, sixteen);
-    if early != 0 {
-        return early;
-    }
+    argument_number(false, eight, sixteen)?;
     cz_unsettled(neighbours, codes, a as usize, b as usize);
-    0
+    Ok(())
 }
 
-// The number of the first line of a measurement that holds.
+// The first line of a measurement that holds.
 fn measure_number(
     n: u64,
     neighbours: &[u64],
@@ -87,21 +83,29 @@ fn measure_number(
     qubit: u64,
     outcome: u8,
     waiting: bool,
-) -> u8
+) -> Result<(), Refusal>
     requires { Standing waiting (used_record n neighbours.now codes.now used) }
-    ensures { result ≡ first_fitting (used_lines_of (meant waiting (used_record n neighbours.now
+    ensures { number_of result ≡ first_fitting (used_lines_of (meant waiting (used_record n neighbours.now
         codes.now used)) (measurement_of pauli qubit outcome)) }
 {
     let six = (2 <= outcome) | ((pauli == 0) | (4 <= pauli));
     let sixteen = bit_at(used, qubit);
-    let early = argument_number(six, n <= qubit, sixteen);
-    if early != 0 {
-        return early;
-    }
+    argument_number(six, n <= qubit, sixteen)?;
     if contradicted(neighbours, codes, pauli, qubit as usize, outcome % 2 == 1) {
-        14
+        Err(Refusal::Contradicted)
     } else {
-        0
+        Ok(())
+    }
+}
+
+// What a refused step answers.
+pub fn refused(refusal: Refusal) -> Answer
+    ensures { result ≡ record { refusal = refusal_number refusal; outcome = 0; determined = 0 } }
+{
+    Answer {
+        refusal: refusal.number(),
+        outcome: 0,
+        determined: 0,
     }
 }
 
@@ -123,13 +127,10 @@ pub fn measure_waiting(
         result.determined result.refusal }
 {
     let word = *used;
-    let early = measure_number(n, neighbours, codes, word, pauli, qubit, outcome, waiting);
-    if early != 0 {
-        return Answer {
-            refusal: early,
-            outcome: 0,
-            determined: 0,
-        };
+    if let Err(refusal) = measure_number(
+        n, neighbours, codes, word, pauli, qubit, outcome, waiting,
+    ) {
+        return refused(refusal);
     }
     let measured = measure_unsettled(neighbours, codes, pauli, qubit as usize, outcome % 2 == 1);
     *used = word | single(qubit as usize);
@@ -163,13 +164,8 @@ pub fn observe_waiting(
     let word = *used;
     let six = (2 <= bit) | ((pauli == 0) | (4 <= pauli));
     let sixteen = bit_at(word, qubit);
-    let early = argument_number(six, n <= qubit, sixteen);
-    if early != 0 {
-        return Answer {
-            refusal: early,
-            outcome: 0,
-            determined: 0,
-        };
+    if let Err(refusal) = argument_number(six, n <= qubit, sixteen) {
+        return refused(refusal);
     }
     let measured = measure_unsettled(neighbours, codes, pauli, qubit as usize, bit % 2 == 1);
     *used = word | single(qubit as usize);
@@ -201,10 +197,10 @@ pub fn complement_waiting(
     used: u64,
     a: u64,
     waiting: bool,
-) -> u8
+) -> Result<(), Refusal>
     requires { Standing waiting (used_record n neighbours.old codes.old used) }
     ensures { Call (used_call (meant waiting (used_record n neighbours.old codes.old used))
-        (complement_of a) neighbours.new codes.new) result }
+        (complement_of a) neighbours.new codes.new) (number_of result) }
 {
     settle_waiting(n, neighbours, codes, used, waiting);
     complement_known(n, neighbours, codes, used, a, true)
@@ -219,10 +215,10 @@ pub fn pivot_waiting(
     j: u64,
     k: u64,
     waiting: bool,
-) -> u8
+) -> Result<(), Refusal>
     requires { Standing waiting (used_record n neighbours.old codes.old used) }
     ensures { Call (used_call (meant waiting (used_record n neighbours.old codes.old used))
-        (pivot_of j k) neighbours.new codes.new) result }
+        (pivot_of j k) neighbours.new codes.new) (number_of result) }
 {
     settle_waiting(n, neighbours, codes, used, waiting);
     pivot_known(n, neighbours, codes, used, j, k, true)
@@ -237,10 +233,10 @@ pub fn renew_waiting(
     qubit: u64,
     code: u8,
     waiting: bool,
-) -> u8
+) -> Result<(), Refusal>
     requires { Standing waiting (used_record n neighbours.old codes.old used.old) }
     ensures { Call (renew_call (meant waiting (used_record n neighbours.old codes.old
-        used.old)) qubit code neighbours.new codes.new used.new) result }
+        used.old)) qubit code neighbours.new codes.new used.new) (number_of result) }
 {
     let word = *used;
     settle_waiting(n, neighbours, codes, word, waiting);

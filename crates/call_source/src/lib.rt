@@ -1,12 +1,14 @@
 // The public calls of a source that goes on: a measurement with a bit by lot, and a new photon at a used place.
 #![tactic(auto)]
 
+ghost use Rattle.buffers.specs.internal.Numbers.{number_of};
 ghost use Rattle.std.specs.Prelude.{not, ◌≡◌};
 ghost use Rattle.buffers.specs.Calls.{Call};
 ghost use Rattle.calls.specs.Sources.{observe_call, renew_call};
 ghost use Rattle.call_gates.specs.internal.Knowing.{Known};
 ghost use Rattle.operations.specs.Used.{used_code, used_record};
 
+use buffers::refusals::Refusal;
 use call_gates::known_refusal;
 use call_gates::measure::argument_refusal;
 use operations::{determined_number, outcome_number};
@@ -26,23 +28,20 @@ pub fn observe_known(
     answer: &mut u8,
     determined: &mut u8,
     known: bool,
-) -> u8
+) -> Result<(), Refusal>
     requires { Known known (used_record n neighbours.old codes.old used.old) }
     ensures { Call (observe_call (used_record n neighbours.old codes.old
         used.old) pauli qubit bit answer.old determined.old
         neighbours.new codes.new used.new answer.new
-        determined.new) result }
+        determined.new) (number_of result) }
 {
     let word = *used;
-    let early = argument_refusal(n, neighbours, codes, word, pauli, qubit, bit, known);
-    if early != 0 {
-        return early;
-    }
+    argument_refusal(n, neighbours, codes, word, pauli, qubit, bit, known)?;
     let measured = measure_record(neighbours, codes, pauli, qubit as usize, bit % 2 == 1);
     *answer = outcome_number(measured);
     *determined = determined_number(measured);
     *used = word | single(qubit as usize);
-    0
+    Ok(())
 }
 
 // The same where nothing is known of the record.
@@ -56,11 +55,11 @@ pub fn observe(
     bit: u8,
     answer: &mut u8,
     determined: &mut u8,
-) -> u8
+) -> Result<(), Refusal>
     ensures { Call (observe_call (used_record n neighbours.old codes.old
         used.old) pauli qubit bit answer.old determined.old
         neighbours.new codes.new used.new answer.new
-        determined.new) result }
+        determined.new) (number_of result) }
 {
     observe_known(
         n, neighbours, codes, used, pauli, qubit, bit, answer, determined, false,
@@ -83,25 +82,22 @@ pub fn renew_known(
     qubit: u64,
     code: u8,
     known: bool,
-) -> u8
+) -> Result<(), Refusal>
     requires { Known known (used_record n neighbours.old codes.old used.old) }
     ensures { Call (renew_call (used_record n neighbours.old codes.old used.old)
-        qubit code neighbours.new codes.new used.new) result }
+        qubit code neighbours.new codes.new used.new) (number_of result) }
 {
     let word = *used;
-    let early = known_refusal(n, neighbours, codes, word, no_photon(code), known);
-    if early != 0 {
-        return early;
-    }
+    known_refusal(n, neighbours, codes, word, no_photon(code), known)?;
     if n <= qubit {
-        return 8;
+        return Err(Refusal::Qubit);
     }
     if !bit_at(word, qubit) {
-        return 20;
+        return Err(Refusal::NotUsed);
     }
     codes[qubit as usize] = code;
     *used = flip(word, qubit as usize);
-    0
+    Ok(())
 }
 
 // The same where nothing is known of the record.
@@ -112,9 +108,9 @@ pub fn renew(
     used: &mut u64,
     qubit: u64,
     code: u8,
-) -> u8
+) -> Result<(), Refusal>
     ensures { Call (renew_call (used_record n neighbours.old codes.old used.old)
-        qubit code neighbours.new codes.new used.new) result }
+        qubit code neighbours.new codes.new used.new) (number_of result) }
 {
     renew_known(n, neighbours, codes, used, qubit, code, false)
 }

@@ -30,10 +30,12 @@ module _ (u : UsedRecord) (st : Store) where
       → r ≡ first_fitting (record_tests (λ m. of_record u m || holds_line m (store_lines 8 st false)))
   save-number own others r e f g = g ∙ ap₂ earlier_of (no-further u false false e) f ∙ sym (both-numbers u st)
 
-  module _ (name k : ℕ) (e : k ≡ first_fitting (record_tests (λ m. of_record u m || holds_line m (store_lines 8 st false))))
+  module _ (name k : ℕ)
+      (e : k ≡ first_fitting (record_tests (λ m. of_record u m || holds_line m (store_lines 8 st false))))
     where
       pub save-refused : (k ≡ 0 → ⊥) → Call (save_call u name st st.heads st.neighbours st.codes) k
-      save-refused h = refused _ (stays (record_tests (λ m. of_record u m || holds_line m (store_lines 8 st false))) _ e h) h
+      save-refused h =
+          refused _ (stays (record_tests (λ m. of_record u m || holds_line m (store_lines 8 st false))) _ e h) h
           (refl, (refl, (refl, tt)))
 
       module _ (z : k ≡ 0) where

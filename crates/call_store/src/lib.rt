@@ -1,6 +1,7 @@
 // The public calls on a store of eight named states.
 #![tactic(auto)]
 
+ghost use Rattle.buffers.specs.internal.Numbers.{number_of};
 ghost use Rattle.std.specs.Prelude.{◌≡◌, false, ◌||◌};
 ghost use Rattle.buffers.specs.Refusals.{first_fitting};
 ghost use Rattle.buffers.specs.Calls.{Call};
@@ -10,12 +11,13 @@ ghost use Rattle.operations.specs.Used.{used_record};
 
 use buffers::earliest::earlier;
 use buffers::other_than;
+use buffers::refusals::Refusal;
 use operations_checks::used_refusal;
 use store_impl::checks::store_refusal;
 use store_impl::copies::{put_head, put_record, take_record};
 use store_impl::places::{find, place_for, word_at};
 
-// The first line of the record or of the store that holds; 0 where none does.
+// The first line of the record or of the store that holds; `Ok` where none does.
 fn save_refusal(
     n: u64,
     neighbours: &[u64],
@@ -24,10 +26,10 @@ fn save_refusal(
     heads: &[u64],
     held_neighbours: &[u64],
     held_codes: &[u8],
-) -> u8
-    ensures { result ≡ first_fitting (record_tests (λ m. of_record (used_record n neighbours.now
+) -> Result<(), Refusal>
+    ensures { number_of result ≡ first_fitting (record_tests (λ m. of_record (used_record n neighbours.now
         codes.now used) m || holds_line m (store_lines 8 (record {
-          heads = heads.entry.now;
+          heads = heads.now;
           neighbours = held_neighbours.now;
           codes = held_codes.now;
         }) false))) }
@@ -47,14 +49,14 @@ pub fn save(
     heads: &mut [u64],
     held_neighbours: &mut [u64],
     held_codes: &mut [u8],
-) -> u8
+) -> Result<(), Refusal>
     ensures { Call (save_call (used_record n neighbours.now codes.now used) name (record {
-      heads = heads.entry.now;
+      heads = heads.old;
       neighbours = held_neighbours.old;
       codes = held_codes.old;
-    }) heads.exit.now held_neighbours.new held_codes.new) result }
+    }) heads.new held_neighbours.new held_codes.new) (number_of result) }
 {
-    let early = save_refusal(
+    save_refusal(
         n,
         neighbours,
         codes,
@@ -62,17 +64,13 @@ pub fn save(
         heads,
         held_neighbours,
         held_codes,
-    );
-    if early != 0 {
-        return early;
-    }
-    let place = place_for(8, heads, name);
-    if 8 <= place {
-        return 18;
-    }
+    )?;
+    let Some(place) = place_for(8, heads, name) else {
+        return Err(Refusal::Full);
+    };
     put_head(place, n, name, used, heads);
     put_record(place, neighbours, codes, held_neighbours, held_codes);
-    0
+    Ok(())
 }
 
 // The record held under the name, brought back into buffers of 64 places.
@@ -85,23 +83,19 @@ pub fn return_to(
     neighbours: &mut [u64],
     codes: &mut [u8],
     used: &mut u64,
-) -> u8
+) -> Result<(), Refusal>
     ensures { Call (return_call name (record {
-      heads = heads.entry.now;
+      heads = heads.now;
       neighbours = held_neighbours.now;
       codes = held_codes.now;
     }) n.old neighbours.old codes.old used.old
-        n.new neighbours.new codes.new used.new) result }
+        n.new neighbours.new codes.new used.new) (number_of result) }
 {
     let others = other_than(neighbours.len(), 64) | other_than(codes.len(), 64);
-    let early = store_refusal(8, heads, held_neighbours, held_codes, others);
-    if early != 0 {
-        return early;
-    }
-    let place = find(8, heads, name);
-    if 8 <= place {
-        return 17;
-    }
+    store_refusal(8, heads, held_neighbours, held_codes, others)?;
+    let Some(place) = find(8, heads, name) else {
+        return Err(Refusal::NotHeld);
+    };
     let count = word_at(heads, 3 * place);
     take_record(
         place,
@@ -113,25 +107,26 @@ pub fn return_to(
     );
     *n = count;
     *used = word_at(heads, 3 * place + 2);
-    0
+    Ok(())
 }
 
 // The place of the name made free.
-pub fn forget(name: u64, heads: &mut [u64], held_neighbours: &[u64], held_codes: &[u8]) -> u8
+pub fn forget(
+    name: u64,
+    heads: &mut [u64],
+    held_neighbours: &[u64],
+    held_codes: &[u8],
+) -> Result<(), Refusal>
     ensures { Call (forget_call name (record {
-      heads = heads.entry.now;
+      heads = heads.old;
       neighbours = held_neighbours.now;
       codes = held_codes.now;
-    }) heads.exit.now) result }
+    }) heads.new) (number_of result) }
 {
-    let early = store_refusal(8, heads, held_neighbours, held_codes, false);
-    if early != 0 {
-        return early;
-    }
-    let place = find(8, heads, name);
-    if 8 <= place {
-        return 17;
-    }
+    store_refusal(8, heads, held_neighbours, held_codes, false)?;
+    let Some(place) = find(8, heads, name) else {
+        return Err(Refusal::NotHeld);
+    };
     heads[3 * place] = 0;
-    0
+    Ok(())
 }

@@ -5,6 +5,7 @@ use mathlib.Core.Path.{ap, refl, sym, ◌∙◌, ◌≡◌}
 use Prim.Native.Nat.{◌*◌, ◌+◌, ◌<◌, ℕ, ◌≤◌}
 use native.Mathlib.Omega.{arith}
 use lib.ListN.{length, length-take, take}
+use Rattle.std.specs.Prelude.{None, Some}
 use Rattle.buffers.proofs.Calling.{done, refused}
 use Rattle.buffers.proofs.Fitting.{first-is, fits-at}
 use Rattle.buffers.proofs.Lines.{not-held}
@@ -35,20 +36,20 @@ abbrev held_by : ReadRecord → UsedRecord
 held_by r =
     used_record r.count (take r.count r.neighbours) (take r.count r.codes) r.used
 
-module _ (t : List ℕ) (n : ℕ) (nb cs : List ℕ) (used : ℕ) (r : ReadRecord) (T : TextTold t r) where
-  pub read-unformed : r.form ≡ false → Call (read_record_call t n nb cs used n nb cs used) 1
-  read-unformed f =
-      refused _ (first-is (here (ap not (sym T.form ∙ f)))) (λ e. absurd (omega (arith, e)))
+module _ (t : List ℕ) (n : ℕ) (nb cs : List ℕ) (used : ℕ) where
+  pub read-unformed : TextTold t None → Call (read_record_call t n nb cs used n nb cs used) 1
+  read-unformed T =
+      refused _ (first-is (here (ap not (sym T.form)))) (λ e. absurd (omega (arith, e)))
       (refl, (refl, (refl, (refl, tt))))
 
-  module _ (f : r.form ≡ true) where
+  module _ (r : ReadRecord) (T : TextTold t (Some r)) where
     -- up to 64 lines the arrays hold what the text says
     same-record : r.count ≤ 64 → held_by r ≡ record_in_text t
     same-record few =
-        let c = T.count f in
-        let words = T.neighbours f few ∙ ap (λ k. tabulate k (λ q. (line_read t q).word)) c in
-        let marks = T.codes f few ∙ ap (λ k. tabulate k (λ q. (line_read t q).code)) c in
-        let bits = T.used f few ∙ ap (λ k. word_of k (λ q. (line_read t q).used)) c in
+        let c = T.lines.count in
+        let words = T.lines.neighbours few ∙ ap (λ k. tabulate k (λ q. (line_read t q).word)) c in
+        let marks = T.lines.codes few ∙ ap (λ k. tabulate k (λ q. (line_read t q).code)) c in
+        let bits = T.lines.used few ∙ ap (λ k. word_of k (λ q. (line_read t q).used)) c in
         λ i. used_record (c i) (words i) (marks i) (bits i)
 
     same_number : (others : Bool) → first_fitting (used_lines (held_by r) others false false)
@@ -57,7 +58,7 @@ module _ (t : List ℕ) (n : ℕ) (nb cs : List ℕ) (used : ℕ) (r : ReadRecor
       where
         go : (b : Bool) → bad_count r.count ≡ b → first_fitting (used_lines (held_by r) others false false)
             ≡ first_fitting (used_lines (record_in_text t) others false false)
-        go true h = sym (two (held_by r) others h) ∙ two (record_in_text t) others (sym (ap bad_count (T.count f)) ∙ h)
+        go true h = sym (two (held_by r) others h) ∙ two (record_in_text t) others (sym (ap bad_count (T.lines.count)) ∙ h)
         go false h =
             ap (λ u. first_fitting (used_lines u others false false)) (same-record (counted r.count h).1)
 
@@ -67,7 +68,7 @@ module _ (t : List ℕ) (n : ℕ) (nb cs : List ℕ) (used : ℕ) (r : ReadRecor
       at-record = e ∙ same_number others ∙ ap (λ b. first_fitting (used_lines (record_in_text t) b false false)) o
 
       at-lines : k ≡ first_fitting (read_record_lines t nb cs)
-      at-lines = first-is (later (ap not (sym T.form ∙ f)) (fits-at _ at-record))
+      at-lines = first-is (later (ap not (sym T.form)) (fits-at _ at-record))
 
       pub read-refused : (k ≡ 0 → ⊥) → Call (read_record_call t n nb cs used n nb cs used) k
       read-refused h = refused _ at-lines h (refl, (refl, (refl, (refl, tt))))
@@ -97,8 +98,8 @@ module _ (t : List ℕ) (n : ℕ) (nb cs : List ℕ) (used : ℕ) (r : ReadRecor
                 omega (arith, few, has-length 64 cs h.1),
               ),
               (
-                omega (arith, in_array r.neighbours _ (T.neighbours f few)),
-                omega (arith, in_array r.codes _ (T.codes f few)),
+                omega (arith, in_array r.neighbours _ (T.lines.neighbours few)),
+                omega (arith, in_array r.codes _ (T.lines.codes few)),
               ),
             )
 
@@ -108,7 +109,7 @@ module _ (t : List ℕ) (n : ℕ) (nb cs : List ℕ) (used : ℕ) (r : ReadRecor
         read_done en ec =
             let same = same-record few in
             done _ at-lines z (
-              T.count f,
+              T.lines.count,
               (
                 en ∙ ap (λ u. written u.held.neighbours nb) same,
                 (ec ∙ ap (λ u. written u.held.codes cs) same, (ap (λ u. u.used) same, tt)),

@@ -1,12 +1,14 @@
 // The public calls that write a record as a text and read it.
 #![tactic(auto)]
 
+ghost use Rattle.buffers.specs.internal.Numbers.{number_of};
 ghost use Rattle.std.specs.Prelude.{false, ◌≡◌, length, take};
 ghost use Rattle.buffers.specs.Calls.{Call};
 ghost use Rattle.buffers.specs.Refusals.{first_fitting};
 ghost use Rattle.calls.specs.RecordTexts.{read_record_call, write_record_call};
 ghost use Rattle.operations.specs.Used.{used_lines, used_record};
 
+use buffers::refusals::Refusal;
 use buffers::{bad_count, other_than};
 use operations_checks::used_refusal;
 use store_impl::copies::take_record;
@@ -21,30 +23,33 @@ pub fn write_record(
     used: u64,
     text: &mut [u8],
     size: &mut u64,
-) -> u8
+) -> Result<(), Refusal>
     ensures { Call (write_record_call (used_record n neighbours.now codes.now used)
-        text.old size.old text.new size.new) result }
+        text.old size.old text.new size.new) (number_of result) }
 {
     let others = other_than(text.len(), 1627);
-    let early = used_refusal(n, neighbours, codes, used, 0, others, false);
-    if early != 0 {
-        return early;
-    }
+    used_refusal(n, neighbours, codes, used, 0, others, false)?;
     let end = print_record(n as usize, neighbours, codes, used, 0, text);
     *size = end as u64;
-    0
+    Ok(())
 }
 
-// The first of lines 2 to 7 that holds of the record in the first n of 64 places; 0 where none does. `others`: a buffer of
-// the call has a wrong length.
-fn held_refusal(n: usize, neighbours: &[u64], codes: &[u8], used: u64, others: bool) -> u8
+// The first of lines 2 to 7 that holds of the record in the first n of 64 places; `Ok` where none does. `others`: a
+// buffer of the call has a wrong length.
+fn held_refusal(
+    n: usize,
+    neighbours: &[u64],
+    codes: &[u8],
+    used: u64,
+    others: bool,
+) -> Result<(), Refusal>
     requires { (length neighbours.now ≡ 64) × (length codes.now ≡ 64) }
-    ensures { result ≡ first_fitting (used_lines (used_record n (take n neighbours.now)
+    ensures { number_of result ≡ first_fitting (used_lines (used_record n (take n neighbours.now)
         (take n codes.now) used) others false false) }
 {
     let count = n as u64;
     if bad_count(count) {
-        return 2;
+        return Err(Refusal::Count);
     }
     used_refusal(count, &neighbours[..n], &codes[..n], used, 0, others, false)
 }
@@ -56,27 +61,25 @@ pub fn read_record(
     neighbours: &mut [u64],
     codes: &mut [u8],
     used: &mut u64,
-) -> u8
+) -> Result<(), Refusal>
     ensures { Call (read_record_call text.now
         n.old neighbours.old codes.old used.old
-        n.new neighbours.new codes.new used.new) result }
+        n.new neighbours.new codes.new used.new) (number_of result) }
 {
-    let read = read_text(text);
-    let form = read.form;
-    if !form {
-        return 1;
-    }
-    let count = read.count;
-    let own_neighbours = read.neighbours;
-    let own_codes = read.codes;
-    let own_used = read.used;
+    let Some(read) = read_text(text) else {
+        return Err(Refusal::Form);
+    };
     let others = other_than(neighbours.len(), 64) | other_than(codes.len(), 64);
-    let number = held_refusal(count, &own_neighbours, &own_codes, own_used, others);
-    if number != 0 {
-        return number;
-    }
-    take_record(0, count, &own_neighbours, &own_codes, neighbours, codes);
-    *n = count as u64;
-    *used = own_used;
-    0
+    held_refusal(read.count, &read.neighbours, &read.codes, read.used, others)?;
+    take_record(
+        0,
+        read.count,
+        &read.neighbours,
+        &read.codes,
+        neighbours,
+        codes,
+    );
+    *n = read.count as u64;
+    *used = read.used;
+    Ok(())
 }

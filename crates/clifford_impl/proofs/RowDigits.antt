@@ -1,13 +1,12 @@
 -- One bit of every number of a list as a word, made from the last number to the first.
-use mathlib.Core.Bool.{Bool, false, true}
+use mathlib.Core.Bool.{Bool, false}
 use mathlib.Core.List.{List}
-use mathlib.Core.Path.{ap, refl, sym, ◌∙◌, ◌≡◌}
+use mathlib.Core.Path.{ap, sym, ◌∙◌, ◌≡◌}
 use Prim.Native.Nat.{◌*◌, ◌+◌, ◌-◌, ◌<◌, ◌^◌, suc, zero, ℕ, ◌≤◌}
 use native.Mathlib.Omega.{arith}
 use lib.Arith.{digits_div, digits_mod}
 use lib.Dec.{eqb}
 use lib.ListN.{get_or-eq_default, get_or, length}
-use mir.Val.{bool_byte}
 use Rattle.words.proofs.BitLaws.{bit-suc, bit-zero, digit_lt, lt-of-bits, odd-digit, zero_bit}
 use Rattle.words.specs.Bits.{bit, digit}
 
@@ -18,10 +17,6 @@ module _ (w : ℕ) (b : Bool) where
 
   doubled-suc : (j : ℕ) → bit (w * 2 + digit b) (suc j) ≡ bit w j
   doubled-suc j = bit-suc _ j ∙ ap (λ k. bit k j) (digits_div w (digit_lt b))
-
-pub byte-digit : (b : Bool) → bool_byte b ≡ digit b
-byte-digit false = refl
-byte-digit true = refl
 
 -- the loop's invariant: the word has bit k of the numbers from place q on
 pub record DigitsFrom (cs : List ℕ) (k word q : ℕ) : Type 0 where
@@ -53,6 +48,3 @@ module _ (cs : List ℕ) (k : ℕ) where
       at zero = doubled-zero word (bit (get_or cs (q - 1) 0) k) ∙ ap (λ i. bit (get_or cs i 0) k) (omega arith)
       at (suc j) = doubled-suc word (bit (get_or cs (q - 1) 0) k) j ∙ D.held j
           ∙ ap (λ i. bit (get_or cs i 0) k) (omega (arith, more))
-
-  pub digits-all : (word q : ℕ) → DigitsFrom cs k word q → q ≤ 0 → (j : ℕ) → bit word j ≡ bit (get_or cs j 0) k
-  digits-all word q D l j = D.held j ∙ ap (λ i. bit (get_or cs i 0) k) (omega (arith, l))

@@ -33,15 +33,13 @@ pub fn image_letters(class: u8) -> ImageLetters
     }
 }
 
-// The letter to which a code sends a letter, bit by bit: the image of X where the letter has an X, times that of Z where
-// it has a Z.
+// The letter to which a code sends a letter, bit by bit: the image of X where the letter has an X, times that of Z
+// where it has a Z.
 fn image_letter(index: u8, letter: Letter) -> Letter
     requires { index < 24 }
     ensures { result ≡ image (clifford_of index) letter }
 {
-    let letters = image_letters(index / 4);
-    let to_x = letters.x;
-    let to_z = letters.z;
+    let ImageLetters { x: to_x, z: to_z } = image_letters(index / 4);
     let x = x_bit(letter);
     let z = z_bit(letter);
     letter_of(
@@ -50,8 +48,8 @@ fn image_letter(index: u8, letter: Letter) -> Letter
     )
 }
 
-// Whether the image of a letter is negative. That of Y, i times the image of X times the image of Z, has both signs, and
-// one more in classes 1 to 3: these exchange two letters, as XZ is -i_y and YZ is i_x.
+// Whether the image of a letter is negative. That of Y, i times the image of X times the image of Z, has both signs,
+// and one more in classes 1 to 3: these exchange two letters, as XZ is -iY and YZ is iX.
 fn image_minus(index: u8, letter: Letter) -> bool
     requires { index < 24 }
     ensures { minus result ≡ image_phase (clifford_of index) letter }
@@ -130,10 +128,7 @@ impl Code {
         requires { self.index < 24 }
         ensures { result ≡ bit_c (clifford_of self.index) }
     {
-        let index = self.index;
-        let letters = image_letters(index / 4);
-        let z = letters.z;
-        x_bit(z)
+        x_bit(image_letters(self.index / 4).z)
     }
 
     // The bit D: whether the image of X is X or Y.
@@ -141,9 +136,6 @@ impl Code {
         requires { self.index < 24 }
         ensures { result ≡ bit_d (clifford_of self.index) }
     {
-        let index = self.index;
-        let letters = image_letters(index / 4);
-        let x = letters.x;
-        x_bit(x)
+        x_bit(image_letters(self.index / 4).x)
     }
 }

@@ -20,10 +20,8 @@ fn entries(table: &[u8; 576], start: usize) -> [u8; 24]
     ensures { (b : ℕ) → b < 24 → get_or result b 0 ≡ get_or table.now (start + b) 0 }
 {
     let mut row = [0; 24];
-    let mut b = 0;
-    while b < 24 {
+    for b in 0..24 {
         row[b] = table[start + b];
-        b += 1;
     }
     row
 }

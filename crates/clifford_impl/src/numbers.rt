@@ -17,8 +17,7 @@ pub fn compose(first: u8, next: u8) -> u8
     requires { (first < 24) × (next < 24) }
     ensures { (result ≡ code_of (then (clifford_of first) (clifford_of next))) × (result < 24) }
 {
-    let code = Code { index: first }.then(Code { index: next });
-    code.index
+    Code { index: first }.then(Code { index: next }).index
 }
 
 // The numbers of a code and then each of the 24, for a loop that puts it before many.

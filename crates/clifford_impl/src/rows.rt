@@ -36,9 +36,7 @@ fn digit_word(codes: &[u8], k: usize) -> u64
     ensures { (q : ℕ) → bit result q ≡ bit (get_or codes.now q 0) k }
 {
     let mut word = 0;
-    let mut q = codes.len();
-    while 0 < q {
-        q -= 1;
+    for q in (0..codes.len()).rev() {
         word = word * 2 + digit_of(codes[q], k);
     }
     word

@@ -11,8 +11,7 @@ use Rattle.clifford.proofs.CliffordLaws.{code_of-lt}
 use Rattle.clifford.specs.Clifford.{inverse, then}
 use Rattle.clifford.specs.Vectors.{codes_of}
 use Rattle.comparison.specs.internal.Compared.{induced_code}
-use Rattle.image_impl.specs.internal.Answer.{IsImage}
-use Rattle.image_impl.specs.declared.answer.ImageAnswer.{ImageAnswer}
+use Rattle.image_impl.specs.internal.Answer.{IsImageList}
 use Rattle.record.proofs.ReducedRecords.{record-proper}
 use Rattle.record.specs.Accepted.{AcceptedRecord}
 use Rattle.record.specs.Lent.{held_record, lent_record}
@@ -54,10 +53,7 @@ module _ (n : ℕ) (nb cs choice cs₂ : List ℕ)
           subst (λ v. AcceptedRecord (lent_record n nb v)) (sym made-is)
           induced-accepted
 
-      pub made-answer : (answer : ImageAnswer) →
-          IsImage n (held_record (lent_record n nb made)) answer →
-          IsImage n
-          (held_record (lent_record n nb (tabulate n (induced_code cs choice cs₂))))
-          answer
-      made-answer answer =
-          subst (λ v. IsImage n (held_record (lent_record n nb v)) answer) made-is
+      pub made-answer : (vertices : List ℕ) (k : ℕ) → IsImageList n (held_record (lent_record n nb made)) vertices k
+          → IsImageList n (held_record (lent_record n nb (tabulate n (induced_code cs choice cs₂)))) vertices k
+      made-answer vertices k =
+          subst (λ v. IsImageList n (held_record (lent_record n nb v)) vertices k) made-is

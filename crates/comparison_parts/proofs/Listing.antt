@@ -2,7 +2,7 @@
 use mathlib.Core.Bool.{◌&&◌, Bool, false, not, true, true≢false}
 use mathlib.Core.List.{List}
 use mathlib.Core.Logic.{inl, inr, ◌⊎◌}
-use mathlib.Core.Path.{ap, ap₂, refl, subst, sym, ◌∙◌, ◌≡◌}
+use mathlib.Core.Path.{ap, ap₂, refl, subst, subst₂, sym, ◌∙◌, ◌≡◌}
 use Prim.Native.Nat.{◌+◌, ◌<◌, ◌≤◌, ◌^◌, suc, zero-le, ℕ}
 use native.Mathlib.Decide.{dec_lt, ℕ_discrete}
 use native.Mathlib.Nat.{lt_irrefl, not-suc-le-zero}
@@ -10,8 +10,9 @@ use native.Mathlib.Omega.{arith}
 use lib.Bits.{bit_xor}
 use lib.Count.{count_trailing_zeros}
 use lib.Dec.{eqb, ltb}
-use lib.ListN.{get_or, length, length-set, set}
-use lib.Seq.{get_or-set_other, get_or-set_same}
+use lib.ListN.{get_or, length, length-set, set, take}
+use lib.Seq.{get_or-set_other, get_or-set_same, get_or-take}
+use Rattle.buffers.proofs.Parts.{part-long}
 use borrow.Author.Tests.{le-ltb, lt-ltb}
 use Rattle.cut.proofs.Counting.{count-except, count-ext, count-upto, except}
 use Rattle.cut.specs.Kernel.{count}
@@ -19,7 +20,7 @@ use Rattle.comparison.specs.internal.Numbered.{Numbers}
 use Rattle.words.proofs.BitLaws.{bit-above, bit-ext, bit-flip, bit-word_of, lt-of-bits, word_of-lt, zero_bit}
 use Rattle.words.proofs.Places.{other_place, same_place, upto-other}
 use Rattle.words.proofs.Trailing.{trailing-set}
-use Rattle.words.specs.Bits.{bit, ◌⊕◌}
+use Rattle.words.specs.Bits.{Word, bit, ◌⊕◌}
 use Rattle.words.specs.Search.{IsFirst}
 use Rattle.comparison_parts.specs.internal.Listed.{renumbered}
 
@@ -229,3 +230,21 @@ compressed-all at w k bits i l m C =
 
     below : bits < 2 ^ k
     below = lt-of-bits k bits (λ j n. C j ∙ ap (λ x. x && bit w (get_or at j 0)) (le-ltb j i (past j n)))
+
+-- ---- the listed vertices as a part of their array
+pub first-numbers : (s : Word) (k : ℕ) (at : List ℕ) → length at ≡ 64 → k ≤ 64
+    → Numbers 64 s k (λ i. get_or at i 0) → Numbers 64 s (length (take k at)) (λ i. get_or (take k at) i 0)
+first-numbers s k at long few N =
+    subst (λ m. Numbers 64 s m (λ i. get_or (take k at) i 0)) (sym (part-long k at few long))
+    (record {
+      rising = λ i j l m. subst₂ ◌<◌ (sym (same i (below l m))) (sym (same j m)) (N.rising i j l m);
+      below = λ i l. subst (λ v. v < 64) (sym (same i l)) (N.below i l);
+      inside = λ i l. ap s (same i l) ∙ N.inside i l;
+      onto = λ q l a. let w = N.onto q l a in (w.0, w.1, same w.0 w.1 ∙ w.2);
+    })
+  where
+    same : (i : ℕ) → i < k → get_or (take k at) i 0 ≡ get_or at i 0
+    same i l = get_or-take k at i 0 l
+
+    below : {i j : ℕ} → i < j → j < k → i < k
+    below l m = omega (arith, l, m)

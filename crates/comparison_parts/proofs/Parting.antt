@@ -1,6 +1,6 @@
 -- The loop over the parts: where it is the least it stays so, and at the end the choice is the least.
 use mathlib.Core.Bool.{◌&&◌, Bool, false, not, true, true≢false}
-use mathlib.Core.List.{List}
+use mathlib.Core.List.{List, []}
 use mathlib.Core.Logic.{inl, inr, ◌⊎◌}
 use mathlib.Core.Path.{ap, ap₂, refl, subst, sym, ◌∙◌, ◌≡◌}
 use Prim.Native.Nat.{◌*◌, ◌+◌, ◌-◌, ◌<◌, ◌≤◌, ◌^◌, ℕ}
@@ -8,6 +8,7 @@ use native.Mathlib.Nat.{lt_of_lt_of_le}
 use native.Mathlib.Omega.{arith}
 use lib.Bits.{bit_and, bit_xor, xor_add_and}
 use lib.Count.{count_trailing_zeros}
+use lib.Dec.{lit<}
 use lib.ListN.{length}
 use lib.Pow.{pow_mono, pow_pos}
 use borrow.Author.Tests.{not-true}
@@ -165,11 +166,11 @@ module _ (n : ℕ) (nb cs nb₂ cs₂ : List ℕ) (P : SoundPair n nb cs nb₂ c
 
         -- ---- or there is no choice
         pub none-answer : (new : List ℕ) → ComponentAnswer n r t component choice false new
-            → LeastAnswer n (held_generators n nb cs) (held_generators n nb₂ cs₂) false new
+            → LeastAnswer n (held_generators n nb cs) (held_generators n nb₂ cs₂) false []
         none-answer new A =
             least-answer n (rows_of n r) (rows_of n t) (record-proper n r P.first.simple).within
-            (record-proper n t P.second.simple).within false new
-            (record { search = A.none refl; codes = A.codes G.codes })
+            (record-proper n t P.second.simple).within false []
+            (record { search = A.none refl; codes = λ q. lit< tt })
 
     pub all-answer : rest ≡ 0 → LeastAnswer n (held_generators n nb cs) (held_generators n nb₂ cs₂) true choice
     all-answer e =

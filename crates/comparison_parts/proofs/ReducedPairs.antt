@@ -7,6 +7,7 @@ use Prim.Native.Nat.{◌<◌, ℕ, ◌≤◌}
 use lib.Dec.{lit<}
 use lib.ListN.{get_or-eq_default, get_or, length, take}
 use borrow.Author.Tests.{not-false, not-true}
+use Rattle.buffers.proofs.CopiedItems.{first-copied}
 use Rattle.buffers.proofs.Lines.{fits, none-fits, passed}
 use Rattle.buffers.proofs.Tabulate.{tabulate-at, tabulate-cong, tabulate-length}
 use Rattle.buffers.specs.Buffers.{tabulate, written}
@@ -24,9 +25,8 @@ use Rattle.comparison.specs.internal.Searches.{LeastAnswer}
 use Rattle.comparison.specs.internal.Setting.{Codes, held_generators}
 use Rattle.comparison_parts.specs.internal.Components.{SoundPair}
 use Rattle.record.specs.NeighbourWords.{graph_in}
-use Rattle.image_impl.specs.internal.Answer.{IsImage}
+use Rattle.image_impl.specs.internal.Answer.{IsImageList}
 use Rattle.image.specs.Rule.{image_list}
-use Rattle.image_impl.specs.declared.answer.ImageAnswer.{ImageAnswer}
 use Rattle.comparison.specs.Parts.{part_above}
 use Rattle.pauli.specs.Pauli.{Pauli}
 use Rattle.record.proofs.AcceptedRecords.{accepted-record}
@@ -70,9 +70,10 @@ unfolding inverse first some
 identity-induced = refl
 
 -- a choice written into a buffer of n places
-pub choice-written : (n : ℕ) (array old choice : List ℕ) → length old ≡ n
-    → choice ≡ tabulate (length old) (λ q. get_or array q 0) → choice ≡ tabulate n (λ q. get_or array q 0)
-choice-written n array old choice long e = e ∙ ap (λ m. tabulate m (λ q. get_or array q 0)) long
+pub choice-written : (n : ℕ) (array old choice : List ℕ) → length old ≡ n → n ≤ length array
+    → choice ≡ take (length old) array → choice ≡ tabulate n (λ q. get_or array q 0)
+choice-written n array old choice long few e =
+    first-copied n array choice (e ∙ ap (λ m. take m array) long) few
 
 pub choice-long : (n : ℕ) (array choice : List ℕ) → choice ≡ tabulate n (λ q. get_or array q 0)
     → length choice ≡ n
@@ -227,9 +228,9 @@ module _ (limited : Bool) (n : ℕ) (nb cs nb₂ cs₂ : List ℕ)
       })
 
       -- the list is that of the image rule
-      module _ (answer : ImageAnswer) (M : IsImage n (held_record induced_lent) answer) where
+      module _ (vertices : List ℕ) (k : ℕ) (M : IsImageList n (held_record induced_lent) vertices k) where
         pub pair-accepted : (choice list list' : List ℕ) (count count' : ℕ) →
-            list' ≡ written (take answer.count answer.list) list → count' ≡ answer.count →
+            list' ≡ written (take k vertices) list → count' ≡ k →
             PairAnswered limited n R S choice list count 0 choice' list' count'
         pair-accepted choice list list' count count' el ec =
             record {

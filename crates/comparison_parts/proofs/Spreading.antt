@@ -67,32 +67,30 @@ passed-all nb marked reached i l m P = subst (Passed nb marked reached) end P
     end = omega (arith, l, m)
 
 -- ---- the search
-pub record Growing (n : ℕ) (θ : Graph) (q reached next : ℕ) : Type 0 where
+pub record Growing (n : ℕ) (θ : Graph) (q reached : ℕ) : Type 0 where
   pub has : bit reached q ≡ true
   pub below : reached < 2 ^ n
   pub inside : (t : ℕ) → t < n → bit reached t ≡ true → part_of n θ q t ≡ true
-  pub step : (j : ℕ) → bit next j ≡ spread_to n θ (bit reached) j
 
 module _ (n : ℕ) (θ : Graph) (S : Simple n θ) (q : ℕ) (l : q < n) where
-  pub grow-start : (reached next : ℕ) → reached ≡ 2 ^ q
-      → ((j : ℕ) → bit next j ≡ spread_to n θ (bit reached) j) → Growing n θ q reached next
-  grow-start reached next e step =
+  pub grow-start : (reached : ℕ) → reached ≡ 2 ^ q → Growing n θ q reached
+  grow-start reached e =
       record {
         has = ap (λ w. bit w q) e ∙ bit-single q q ∙ same_place q;
         below = subst (λ w. w < 2 ^ n) (sym e) (pow-lt l);
         inside = λ t k a. alone t (sym (ap (λ w. bit w t) e ∙ bit-single q t) ∙ a);
-        step = step;
       }
     where
       alone : (t : ℕ) → eqb t q ≡ true → part_of n θ q t ≡ true
       alone t a = subst (λ u. part_of n θ q u ≡ true) (sym (eqb-true t q a)) (part-has n θ q)
 
-  module _ (reached next : ℕ) (G : Growing n θ q reached next) where
+  module _ (reached next : ℕ) (G : Growing n θ q reached)
+      (step : (j : ℕ) → bit next j ≡ spread_to n θ (bit reached) j) where
     kept : (j : ℕ) → bit reached j ≡ true → bit next j ≡ true
-    kept j a = G.step j ∙ ap (λ b. b || some n (λ i. bit reached i && θ i j)) a
+    kept j a = step j ∙ ap (λ b. b || some n (λ i. bit reached i && θ i j)) a
 
     pub next-below : next < 2 ^ n
-    next-below = lt-of-bits n next (λ j k. G.step j
+    next-below = lt-of-bits n next (λ j k. step j
         ∙ ap₂ ◌||◌ (bit-above n reached G.below j k)
         (some-none n (λ i. bit reached i && θ i j) (λ i m. ap (λ b. bit reached i && b) (S.below i j k) ∙ and-false
         (bit reached i))))
@@ -117,14 +115,13 @@ module _ (n : ℕ) (θ : Graph) (S : Simple n θ) (q : ℕ) (l : q < n) where
         falls : (b u v : ℕ) → u < v → v < b → b - v < b - u
         falls b u v l m = omega (arith, l, m)
 
-    pub grow-more : (after : ℕ) → ((j : ℕ) → bit after j ≡ spread_to n θ (bit next) j) → Growing n θ q next after
-    grow-more after step =
+    pub grow-more : Growing n θ q next
+    grow-more =
         record {
           has = kept q G.has;
           below = next-below;
           inside = λ t k a. go t k (either (bit reached t) (some n (λ i. bit reached i && θ i t))
-              (sym (G.step t) ∙ a));
-          step = step;
+              (sym (step t) ∙ a));
         }
       where
         go : (t : ℕ) → t < n → (bit reached t ≡ true) ⊎ (some n (λ i. bit reached i && θ i t) ≡ true)
@@ -146,7 +143,7 @@ module _ (n : ℕ) (θ : Graph) (S : Simple n θ) (q : ℕ) (l : q < n) where
       where
         closed : Closed n θ (bit reached)
         closed i j k m a b =
-            ap (λ w. bit w j) (sym e) ∙ G.step j
+            ap (λ w. bit w j) (sym e) ∙ step j
             ∙ ap (λ v. bit reached j || v) (some_in n (λ i. bit reached i && θ i j) i k (both a b))
             ∙ or-true (bit reached j)
 

@@ -6,26 +6,19 @@ mod component;
 mod part_records;
 mod sets;
 
-ghost use Rattle.std.specs.Prelude.{◌≤◌};
+ghost use Rattle.std.specs.Prelude.{[], ◌≤◌, is_some, unwrap_or};
 ghost use Rattle.comparison.specs.internal.Equations.{EmptyFrom, equations_in};
 ghost use Rattle.comparison.specs.internal.Searches.{LeastAnswer};
 ghost use Rattle.comparison.specs.internal.Setting.{held_generators};
 ghost use Rattle.comparison_parts.specs.internal.Components.{Component, ComponentAnswer, SoundPair, record_held};
 
-use crate::component::{compare_listed, placed};
+use crate::component::{compare_listed, place};
 use crate::part_records::vertices;
 use crate::sets::{part, spread};
 use words::{mask, smallest};
 
-// Whether a choice was found, and the choice.
-#[derive(Drop)]
-pub struct Whole {
-    pub found: bool,
-    pub choice: [u8; 64],
-}
-
-// One part compared: no choice, where an edge of the second graph leaves it or it has none; else its least choice beside
-// those of other parts; by a table without equations, which it leaves so.
+// One part compared: none, where an edge of the second graph leaves it or it has no choice; else its least choice is put
+// beside those of other parts. By a table without equations, which it leaves so.
 fn compare_component(
     table: &mut [[u64; 4]; 256],
     n: usize,
@@ -34,28 +27,25 @@ fn compare_component(
     neighbours2: &[u64],
     codes2: &[u8],
     component: u64,
-    choice: [u8; 64],
-) -> Whole
+    choice: &mut [u8; 64],
+) -> Option<()>
     requires sound_pair { SoundPair n neighbours.now codes.now neighbours2.now codes2.now }
     requires component { Component n neighbours.now component × EmptyFrom 0 (equations_in table.old) }
     ensures component_answer { ComponentAnswer n (record_held n neighbours.now codes.now)
-        (record_held n neighbours2.now codes2.now) component choice result.found result.choice }
+        (record_held n neighbours2.now codes2.now) component choice.old (is_some result) choice.new }
     ensures empty_from { EmptyFrom 0 (equations_in table.new) }
 {
     if spread(neighbours2, component) != component {
-        return Whole {
-            found: false,
-            choice,
-        };
+        return None;
     }
     let listed = vertices(component);
     let k = listed.count;
-    let at = listed.at;
+    let at = &listed.at[..k];
     let mut words = [0u64; 64];
     let mut numbers = [0u8; 64];
     let mut words2 = [0u64; 64];
     let mut numbers2 = [0u8; 64];
-    let answer = compare_listed(
+    let chosen = compare_listed(
         table,
         n,
         neighbours,
@@ -68,19 +58,9 @@ fn compare_component(
         &mut numbers[..k],
         &mut words2[..k],
         &mut numbers2[..k],
-    );
-    if !answer.found {
-        return Whole {
-            found: false,
-            choice,
-        };
-    }
-    let chosen = answer.choice;
-    let whole = placed(at, k, chosen, choice);
-    Whole {
-        found: true,
-        choice: whole,
-    }
+    )?;
+    place(at, &chosen, choice);
+    Some(())
 }
 
 // The least choice that carries the group of the first record onto that of the second.
@@ -90,10 +70,10 @@ pub fn compare_parts(
     codes: &[u8],
     neighbours2: &[u64],
     codes2: &[u8],
-) -> Whole
+) -> Option<[u8; 64]>
     requires { (1 ≤ n) × SoundPair n neighbours.now codes.now neighbours2.now codes2.now }
     ensures { LeastAnswer n (held_generators n neighbours.now codes.now)
-        (held_generators n neighbours2.now codes2.now) result.found result.choice }
+        (held_generators n neighbours2.now codes2.now) (is_some result) (unwrap_or result []) }
 {
     let mut table = [[0u64; 4]; 256];
     let mut choice = [0u8; 64];
@@ -101,7 +81,7 @@ pub fn compare_parts(
     while rest != 0 {
         let q = smallest(rest);
         let component = part(neighbours, q);
-        let whole = compare_component(
+        compare_component(
             &mut table,
             n,
             neighbours,
@@ -109,20 +89,9 @@ pub fn compare_parts(
             neighbours2,
             codes2,
             component,
-            choice,
-        );
-        let next = whole.choice;
-        if !whole.found {
-            return Whole {
-                found: false,
-                choice: next,
-            };
-        }
-        choice = next;
+            &mut choice,
+        )?;
         rest = rest ^ (rest & component);
     }
-    Whole {
-        found: true,
-        choice,
-    }
+    Some(choice)
 }

@@ -15,12 +15,10 @@ pub fn spread(neighbours: &[u64], marked: u64) -> u64
         (graph_in neighbours.now) (bit marked) j }
 {
     let mut reached = marked;
-    let mut i = 0;
-    while i < neighbours.len() {
+    for (i, &word) in neighbours.iter().enumerate() {
         if has(marked, i) {
-            reached = reached | neighbours[i];
+            reached = reached | word;
         }
-        i += 1;
     }
     reached
 }
@@ -32,12 +30,13 @@ pub fn part(neighbours: &[u64], q: usize) -> u64
     ensures { PartWord (length neighbours.now) (graph_in neighbours.now) q result }
 {
     let mut reached = single(q);
-    let mut next = spread(neighbours, reached);
-    while next != reached {
+    loop {
+        let next = spread(neighbours, reached);
+        if next == reached {
+            return reached;
+        }
         reached = next;
-        next = spread(neighbours, reached);
     }
-    reached
 }
 
 // Whether some part has more than 20 vertices. The part of a vertex seen in an earlier one is that one.
@@ -47,8 +46,7 @@ pub fn part_above(neighbours: &[u64]) -> bool
     ensures { result ≡ part_above 20 (length neighbours.now) (graph_in neighbours.now) }
 {
     let mut seen = 0;
-    let mut q = 0;
-    while q < neighbours.len() {
+    for q in 0..neighbours.len() {
         if !has(seen, q) {
             let component = part(neighbours, q);
             if 20 < count(component) {
@@ -56,7 +54,6 @@ pub fn part_above(neighbours: &[u64]) -> bool
             }
             seen = seen | component;
         }
-        q += 1;
     }
     false
 }

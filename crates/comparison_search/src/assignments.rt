@@ -18,17 +18,15 @@ fn class_bits(v: u8) -> u64
 }
 
 // The words of the classes of a choice.
-pub fn class_words(n: usize, choice: [u8; 64]) -> [u64; 4]
-    requires { (n ≤ 64) × Codes choice }
-    ensures { assignment_of result ≡ class_assignment n (codes_of choice) }
+pub fn class_words(n: usize, choice: &[u8; 64]) -> [u64; 4]
+    requires { (n ≤ 64) × Codes choice.now }
+    ensures { assignment_of result ≡ class_assignment n (codes_of choice.now) }
 {
     let mut words = [0, 0, 0, 0];
-    let mut q = 0;
-    while q < n {
+    for q in 0..n {
         let four = class_bits(choice[q] / 4);
         let next = place(words, q, four);
         words = next;
-        q += 1;
     }
     words
 }
@@ -44,17 +42,16 @@ pub fn with_class(w: [u64; 4], q: usize, v: u8) -> [u64; 4]
     place(w, q, four)
 }
 
-// The words of the signs of a choice.
-pub fn sign_words(n: usize, choice: [u8; 64]) -> [u64; 4]
+// The words of the signs of a choice. A loop of its own: with the start and the placing passed in, neither loop would say
+// what it does.
+pub fn sign_words(n: usize, choice: &[u8; 64]) -> [u64; 4]
     requires { n ≤ 64 }
-    ensures { assignment_of result ≡ sign_assignment n (codes_of choice) }
+    ensures { assignment_of result ≡ sign_assignment n (codes_of choice.now) }
 {
     let mut words = [0, 0, 1, 0];
-    let mut q = 0;
-    while q < n {
+    for q in 0..n {
         let next = place_signs(words, q, choice[q]);
         words = next;
-        q += 1;
     }
     words
 }

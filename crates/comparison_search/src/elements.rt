@@ -37,13 +37,11 @@ pub fn element(n: usize, second: &[[u64; 3]; 64], frame: Action, p: Generator) -
         z: 0,
         x: 0,
     };
-    let mut j = 0;
-    while j < n {
+    for j in 0..n {
         if has(w, j) {
             let g = generator_at(second, j);
             h = times(h, g);
         }
-        j += 1;
     }
     h
 }

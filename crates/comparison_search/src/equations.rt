@@ -1,5 +1,5 @@
 // Linear equations modulo 2 over the unknowns of 64 qubits, four for each, whose sum is to be 0: four words, and unknown
-// l of qubit q is bit q of word l.
+// l of qubit q is bit q of word l. An equation is passed as a value: it is small, and is written whole.
 ghost use Rattle.std.specs.Prelude.{◌≡◌, false, true, ℕ, ◌<◌, ◌≤◌};
 ghost use Rattle.comparison.specs.internal.Equations.{
   Bound,
@@ -119,13 +119,11 @@ fn clear(table: &mut [[u64; 4]; 256], i: usize, end: usize)
     ensures { Rewritten (equations_in table.old) (equations_in table.new) }
 {
     let p = table[i];
-    let mut k = i + 1;
-    while k < end {
+    for k in i + 1..end {
         let e = table[k];
         if has_unknown(e, i) {
             table[k] = add(e, p);
         }
-        k += 1;
     }
 }
 
@@ -157,15 +155,7 @@ pub fn broken(table: &[[u64; 4]; 256], q: usize, w: [u64; 4]) -> bool
     requires { q < 64 }
     ensures { QubitTested (equations_in table.now) q (assignment_of w) result }
 {
-    let mut i = 4 * q;
-    while i < 4 * q + 4 {
-        let e = table[i];
-        if fails(e, w) {
-            return true;
-        }
-        i += 1;
-    }
-    false
+    table[4 * q..4 * q + 4].iter().any(|e| fails(*e, w))
 }
 
 // A table without equations, of one that has none from an end on.
@@ -173,9 +163,7 @@ pub fn wipe(table: &mut [[u64; 4]; 256], end: usize)
     requires { (end ≤ 256) × EmptyFrom end (equations_in table.old) }
     ensures { EmptyFrom 0 (equations_in table.new) }
 {
-    let mut i = end;
-    while 0 < i {
-        i -= 1;
-        table[i] = [0, 0, 0, 0];
+    for row in &mut table[..end] {
+        *row = [0; 4];
     }
 }

@@ -25,9 +25,7 @@ pub fn induced_codes(first: &[u8], choice: &[u8], second: &[u8], induced: &mut [
     ensures { induced.new ≡ tabulate (length induced.old)
         (induced_code first.now choice.now second.now) }
 {
-    let mut q = 0;
-    while q < induced.len() {
+    for q in 0..induced.len() {
         induced[q] = induced_code(first[q], choice[q], second[q]);
-        q += 1;
     }
 }

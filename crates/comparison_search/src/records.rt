@@ -17,8 +17,7 @@ pub fn generators(n: usize, neighbours: &[u64], codes: &[u8], rows: &mut [[u64; 
         ≡ held_generators n neighbours.now codes.now j }
 {
     let by = action_of(codes);
-    let mut j = 0;
-    while j < n {
+    for j in 0..n {
         let g = Generator {
             minus: false,
             z: neighbours[j],
@@ -26,7 +25,6 @@ pub fn generators(n: usize, neighbours: &[u64], codes: &[u8], rows: &mut [[u64; 
         };
         let sent = act_on(g, by);
         rows[j] = row_of(sent);
-        j += 1;
     }
 }
 
@@ -36,12 +34,10 @@ pub fn inverses(n: usize, codes: &[u8]) -> [u8; 64]
     ensures { ((q : ℕ) → q < n → get_or result q 0 ≡ code_of (inverse (codes_of codes.now q))) × Codes result }
 {
     let mut all = [0u8; 64];
-    let mut q = 0;
-    while q < n {
+    for q in 0..n {
         let code = Code { index: codes[q] };
         let undone = code.inverse();
         all[q] = undone.index;
-        q += 1;
     }
     all
 }

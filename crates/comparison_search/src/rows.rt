@@ -8,8 +8,7 @@ use pauli::Generator;
 pub fn row_of(g: Generator) -> [u64; 3]
     ensures { generator_in result ≡ g }
 {
-    let sign = if g.minus { 1 } else { 0 };
-    [g.z, g.x, sign]
+    [g.z, g.x, u64::from(g.minus)]
 }
 
 // Generator j.

@@ -22,8 +22,7 @@ fn class_equation(g: Generator, h: Generator) -> [u64; 4]
 fn sign_equation(g: Generator, sum: bool) -> [u64; 4]
     ensures { equation_of result ≡ sign_equation g sum }
 {
-    let constant = if sum { 1 } else { 0 };
-    [g.x, g.z, constant, 0]
+    [g.x, g.z, u64::from(sum), 0]
 }
 
 // The equations of one generator of the first group with all of the second.
@@ -33,12 +32,10 @@ fn class_rows(table: &mut [[u64; 4]; 256], n: usize, g: Generator, second: &[[u6
         → ClassTable n first (generators_in second.now) i 0 (equations_in table.old)
         → ClassTable n first (generators_in second.now) (i + 1) 0 (equations_in table.new) }
 {
-    let mut j = 0;
-    while j < n {
+    for j in 0..n {
         let h = generator_at(second, j);
         let e = class_equation(g, h);
         insert(table, n, e);
-        j += 1;
     }
 }
 
@@ -53,11 +50,9 @@ pub fn class_table(
     ensures { ClassTable n (generators_in first.now) (generators_in second.now) n 0
         (equations_in table.new) }
 {
-    let mut i = 0;
-    while i < n {
+    for i in 0..n {
         let g = generator_at(first, i);
         class_rows(table, n, g, second);
-        i += 1;
     }
 }
 
@@ -67,26 +62,24 @@ pub fn sign_table(
     n: usize,
     first: &[[u64; 3]; 64],
     second: &[[u64; 3]; 64],
-    frame: [u8; 64],
-    choice: [u8; 64],
+    frame: &[u8; 64],
+    choice: &[u8; 64],
 )
-    requires setting { Setting n (generators_in first.now) (generators_in second.now) frame × Codes choice × NoSigns
-        choice }
-    requires sent_up_to_sign { SentUpToSign n (generators_in first.now) (generators_in second.now) (codes_of choice) × EmptyFrom 0
+    requires setting { Setting n (generators_in first.now) (generators_in second.now) frame.now × Codes choice.now × NoSigns
+        choice.now }
+    requires sent_up_to_sign { SentUpToSign n (generators_in first.now) (generators_in second.now) (codes_of choice.now) × EmptyFrom 0
         (equations_in table.old) }
     ensures { SignTable n (generators_in first.now) (generators_in second.now)
-        (codes_of choice) n
+        (codes_of choice.now) n
         (equations_in table.new) }
 {
     let by = action_of(&choice[..n]);
     let undone = action_of(&frame[..n]);
-    let mut i = 0;
-    while i < n {
+    for i in 0..n {
         let g = generator_at(first, i);
         let p = act_on(g, by);
         let h = element(n, second, undone, p);
         let e = sign_equation(g, p.minus ^ h.minus);
         insert(table, n, e);
-        i += 1;
     }
 }

@@ -51,15 +51,13 @@ pub fn cut_rank(n: usize, neighbours: &[u64], side: u64) -> usize
 {
     let mut basis = [0u64; 64];
     let mut rank = 0;
-    let mut k = 0;
-    while k < n {
+    for k in 0..n {
         let column = crossing_column(neighbours, side, k);
         let rest = remainder(&basis, column);
         if rest != 0 {
             basis[smallest(rest)] = rest;
             rank += 1;
         }
-        k += 1;
     }
     rank
 }

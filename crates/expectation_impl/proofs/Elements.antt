@@ -5,7 +5,6 @@ use mathlib.Core.Path.{ap, refl, ◌∙◌, ◌≡◌}
 use Prim.Native.Nat.{◌+◌, ◌<◌, ◌^◌, ℕ, ◌≤◌}
 use lib.Dec.{lit<}
 use lib.ListN.{get_or, length}
-use mir.Val.{bool_byte}
 use Rattle.record.proofs.GraphGroups.{graph-within}
 use Rattle.record.specs.Graph.{Simple, graph_generator}
 use Rattle.record.specs.NeighbourWords.{graph_in}
@@ -58,9 +57,9 @@ module _ (words : List ℕ) (chosen : ℕ) where
   whole-element j e end part =
       (all-multiplied (length words) _ (bit chosen) j (pauli_of e) end part.multiplied, part.low)
 
--- the value of two signs, as the code has it
-pub byte-of-signs : (s m : Bool) → bool_byte (not (beq s m)) ≡ digit (s ⊕ m)
-byte-of-signs false false = refl
-byte-of-signs false true = refl
-byte-of-signs true false = refl
-byte-of-signs true true = refl
+-- whether two signs differ, as the code has it
+pub signs-differ : (s m : Bool) → digit (not (beq s m)) ≡ digit (s ⊕ m)
+signs-differ false false = refl
+signs-differ false true = refl
+signs-differ true false = refl
+signs-differ true true = refl

@@ -7,6 +7,7 @@ ghost use Rattle.clifford.specs.Clifford.{inverse};
 ghost use Rattle.clifford.specs.Vectors.{act, codes_of};
 ghost use Rattle.expectation.specs.internal.Reading.{read_value};
 ghost use Rattle.expectation.specs.Values.{stabilizer_value};
+ghost use Rattle.expectation_impl.specs.internal.ValueNumbers.{value_number};
 ghost use Rattle.record.specs.Graph.{Simple, graph_generator};
 ghost use Rattle.record.specs.NeighbourWords.{graph_in};
 ghost use Rattle.pauli.specs.Pauli.{signed_row};
@@ -41,45 +42,49 @@ fn graph_element(neighbours: &[u64], chosen: u64) -> Row
         z: 0,
         x: 0,
     };
-    let mut j = 0;
-    while j < neighbours.len() {
+    for (j, &word) in neighbours.iter().enumerate() {
         if has(chosen, j) {
             let generator = Row {
                 phase: 0,
-                z: neighbours[j],
+                z: word,
                 x: single(j),
             };
             element = element.times(generator);
         }
-        j += 1;
     }
     element
 }
 
-// The element beside the row that was sent back: 2 where their letters differ; else 0 where the signs are equal, 1 where
-// they are not.
-fn read(element: Row, row: Generator) -> u8
-    ensures { result ≡ read_value element row }
+// The element beside the row that was sent back: whether their signs differ, where their letters are the same.
+fn read(element: Row, row: Generator) -> Option<bool>
+    ensures { value_number result ≡ read_value element row }
 {
     if element.z != row.z {
-        return 2;
+        return None;
     }
-    ((element.phase == 2) != row.minus) as u8
+    Some((element.phase == 2) != row.minus)
 }
 
-// The value of the row with these two words, sign plus.
-pub fn row_value(n: usize, neighbours: &[u64], codes: &[u8], z: u64, x: u64) -> u8
+// The value of the row with these two words, sign plus: whether it is minus, where the row or its negative is in the
+// group.
+pub fn row_value(n: usize, neighbours: &[u64], codes: &[u8], z: u64, x: u64) -> Option<bool>
     requires accepted_record { AcceptedRecord (lent_record n neighbours.now codes.now) }
     requires z_bound { (z < 2 ^ n) × (x < 2 ^ n) }
-    ensures { result ≡ stabilizer_value n (held_rows (lent_record n neighbours.now codes.now))
+    ensures { value_number result ≡ stabilizer_value n (held_rows (lent_record n neighbours.now codes.now))
         (signed_row false z x) }
 {
-    let plus = Generator {
-        minus: false,
-        z: z,
-        x: x,
-    };
+    let plus = Generator { minus: false, z, x };
     let row = send_back(plus, codes);
     let chosen = row.x;
     read(graph_element(neighbours, chosen), row)
+}
+
+// The number that a call answers for a value.
+pub fn value_number(value: Option<bool>) -> u8
+    ensures { result ≡ value_number value }
+{
+    match value {
+        Some(minus) => u8::from(minus),
+        None => 2,
+    }
 }

@@ -10,7 +10,12 @@ use lib.Bits.{bit_and}
 use lib.Dec.{eqb}
 use lib.ListN.{get_or-append, get_or, length, take}
 use borrow.Author.Tests.{eq-eqb}
+use Rattle.std.specs.Prelude.{Err, IfOk, Ok, Result}
+use Rattle.std.specs.Result.{IsErrAnd}
+use Rattle.std.proofs.lemmas.Result.{IfOk-weaker}
 use Rattle.buffers.proofs.Lines.{not-held}
+use Rattle.buffers.specs.internal.Numbers.{number_of}
+use Rattle.buffers.specs.declared.refusals.Refusal.{Refusal}
 use Rattle.buffers.specs.Refusals.{first_fitting, line}
 use Rattle.clifford.specs.Clifford.{bit_c, image}
 use Rattle.clifford.specs.Vectors.{codes_of}
@@ -31,15 +36,13 @@ use Rattle.image_impl.proofs.SignBytes.{sign-formula}
 use Rattle.image.proofs.Signs.{minus_at}
 use Rattle.image.proofs.TrackedBits.{image-bits, image-length, image-simple}
 use Rattle.image_impl.proofs.WordMoves.{set-bit}
-use Rattle.image_impl.specs.internal.Answer.{IsImage}
+use Rattle.image_impl.specs.internal.Answer.{IsImage, IsImageList}
 use Rattle.image.specs.Image.{image_graph, image_minus, image_record, is_y, loop_lines, looped, stuck}
 use Rattle.image.specs.Rule.{image_list}
 use Rattle.image_impl.proofs.TrackedRecords.{tracked-codes, tracked-simple, tracked-small}
-use Rattle.image_impl.specs.internal.Working.{Complemented, Tracking, Working, working, working_record}
-use Rattle.image_impl.specs.declared.answer.ImageAnswer.{ImageAnswer}
+use Rattle.image_impl.specs.internal.Working.{Complemented, Ruled, Tracking, Working, working, working_record}
 use Rattle.clifford_impl.specs.declared.rows.Action.{Action}
 use Rattle.clifford_impl.specs.internal.Actions.{ActsAs}
-use Rattle.operations.proofs.UnrefusedRecords.{unrefused-simple}
 use Rattle.operations.specs.internal.InPlace.{Unrefused, record_in}
 use Rattle.image_impl.proofs.ActionWords.{sx-here, sz-above, sz-here, y-above, y-here}
 use Rattle.image_impl.specs.declared.complementing.Tracked.{Tracked}
@@ -123,48 +126,70 @@ module _ (n : ℕ) (r : GraphRecord) (G : Simple n r.graph) (w : Working)
         ∙ sym (image-minus n r G a.0 a.1 j l)
 
 -- ---- from the calls
-pub answered : (words codes list : List ℕ) → Unrefused (record_in words codes) → (t : Tracked) → t.count ≡ 0
+-- what the rule comes to on a record
+pub ruled : (words codes list : List ℕ) → Unrefused (record_in words codes) → (t : Tracked) → t.count ≡ 0
     → (end : Working) → Complemented (length words) (working words codes list t)
-    (image_list (length words) (held_record (record_in words codes))) end → (k : Action) →
-    ActsAs (codes_of end.codes) k → k.b < 2 ^ 64 → k.sz < 2 ^ 64 → (a : ImageAnswer) →
-    a.number ≡ cond (eqb end.c 0) (cond (eqb (bit_and k.b k.d) 0) 0 12) 11 → a.graph ≡ end.neighbours →
-    ((j : ℕ) → j < length end.neighbours → get_or a.signs j 0 ≡ digit (bit k.sx j
-    ⊕ dot (get_or end.neighbours j 0) k.sz)) →
-    a.list ≡ end.list → a.count ≡ end.count → IsImage (length words) (held_record (record_in words codes)) a
-answered words codes list' U t empty end C k W b-below sz-below a number graph signs list count =
+    (image_list (length words) (held_record (record_in words codes))) end →
+    Ruled (length words) (held_record (record_in words codes)) end
+ruled words codes list U t empty end C =
     record {
-      number = number ∙ number_word n r G end C.held T k W b-below sz-below;
-      graph = λ j m. ap (λ ws. get_or ws j 0) graph ∙ graph-word n r G end C.held T k W b-below sz-below j;
-      signs = λ e j m. signs j (subst (λ i. j < i) (sym T.long) m)
-          ∙ ap digit (sign_word n r G end C.held T k W b-below sz-below
-          (sym (number_word n r G end C.held T k W b-below sz-below) ∙ sym number ∙ e) j m);
-      list = ap₂ take count list ∙ C.list ∙ ap (λ c. take c list' ++ image_list n r) empty;
-      count = counted;
-      room = omega (arith, counted, image-length n r G, tracked-small n end T);
+      held = C.held;
+      list = C.list ∙ ap (λ c. take c list ++ vertices) empty;
+      count = C.count ∙ ap (λ c. c + length vertices) empty ∙ zero-add _;
+      tracking = C.tracking;
     }
   where
-    n : ℕ
-    n = length words
+    vertices : List ℕ
+    vertices = image_list (length words) (held_record (record_in words codes))
 
-    r : GraphRecord
-    r = held_record (record_in words codes)
+-- the rule ran on a copy
+pub copied-ruled : {words codes words' codes' : List ℕ} {w : Working} → (words' ≡ words) × (codes' ≡ codes)
+    → Ruled (length words') (held_record (record_in words' codes')) w
+    → Ruled (length words) (held_record (record_in words codes)) w
+copied-ruled {words} {codes} {words'} {codes'} {w} e R =
+    subst (λ cs. Ruled (length words) (held_record (record_in words cs)) w) e.1
+    (subst (λ ws. Ruled (length ws) (held_record (record_in ws codes')) w) e.0 R)
 
-    G : Simple n r.graph
-    G = unrefused-simple words codes U
+-- a refusal has no count
+pub no-count : {A : Type 0} (answer : Result A Refusal) (refusal : Refusal) → IsErrAnd answer (λ v. v ≡ refusal) →
+    (P : A → Type 0) → IfOk answer P
+no-count (Ok k) refusal p P = absurd p
+no-count (Err v) refusal p P = tt
 
-    T : Tracking n end
-    T = C.tracking
+module _ (n : ℕ) (r : GraphRecord) (G : Simple n r.graph) (end : Working) (R : Ruled n r end) where
+  list-room : length (image_list n r) ≤ 96
+  list-room = omega (arith, image-length n r G, tracked-small n end R.tracking)
 
-    counted : a.count ≡ length (image_list n r)
-    counted = count ∙ C.count ∙ ap (λ c. c + length (image_list n r)) empty ∙ zero-add _
+  pub listed-all : IsImageList n r end.list end.count
+  listed-all = record { list = R.list; count = R.count; room = omega (arith, list-room, R.count) }
+
+  pub answered : (k : Action) → ActsAs (codes_of end.codes) k → k.b < 2 ^ 64 → k.sz < 2 ^ 64 →
+      (answer : Result ℕ Refusal) → number_of answer ≡ cond (eqb end.c 0) (cond (eqb (bit_and k.b k.d) 0) 0 12) 11 →
+      IfOk answer (λ k. k ≡ end.count) → (signs : List ℕ) →
+      ((j : ℕ) → j < length end.neighbours → get_or signs j 0 ≡ digit (bit k.sx j
+      ⊕ dot (get_or end.neighbours j 0) k.sz)) → IsImage n r answer end.neighbours signs end.list
+  answered k W b-below sz-below answer number count signs at =
+      record {
+        number = number ∙ number_word n r G end R.held T k W b-below sz-below;
+        graph = λ j m. graph-word n r G end R.held T k W b-below sz-below j;
+        signs = λ e j m. at j (subst (λ i. j < i) (sym T.long) m)
+            ∙ ap digit (sign_word n r G end R.held T k W b-below sz-below
+            (sym (number_word n r G end R.held T k W b-below sz-below) ∙ sym number ∙ e) j m);
+        list = ap (λ c. take c end.list) (sym R.count) ∙ R.list;
+        count = IfOk-weaker answer _ _ (λ c e. e ∙ R.count) count;
+        room = list-room;
+      }
+    where
+      T : Tracking n end
+      T = R.tracking
 
 -- the answer with words and signs at the start of longer arrays
 pub answered-longer : (n : ℕ) (words codes : List ℕ) → AcceptedRecord (lent_record n words codes)
-    → (number : ℕ) (graph signs list : List ℕ) (count : ℕ) → IsImage (length words) (held_record (record_in words codes))
-    (record { number = number; graph = graph; signs = signs; list = list; count = count }) → (more others : List ℕ)
-    → length graph ≡ n → length signs ≡ n → IsImage n (held_record (record_in words codes))
-    (record { number = number; graph = graph ++ more; signs = signs ++ others; list = list; count = count })
-answered-longer n words codes A number graph signs list count I more others lg ls =
+    → (answer : Result ℕ Refusal) (graph signs list : List ℕ) →
+    IsImage (length words) (held_record (record_in words codes)) answer graph signs list → (more others : List ℕ)
+    → length graph ≡ n → length signs ≡ n →
+    IsImage n (held_record (record_in words codes)) answer (graph ++ more) (signs ++ others) list
+answered-longer n words codes A answer graph signs list I more others lg ls =
     record {
       number = J.number;
       graph = λ j m. get_or-append graph more 0 j (subst (λ k. j < k) (sym lg) m) ∙ J.graph j m;
@@ -174,15 +199,5 @@ answered-longer n words codes A number graph signs list count I more others lg l
       room = J.room;
     }
   where
-    J : IsImage n (held_record (record_in words codes))
-        (record { number = number; graph = graph; signs = signs; list = list; count = count })
-    J = subst (λ m. IsImage m (held_record (record_in words codes))
-        (record { number = number; graph = graph; signs = signs; list = list; count = count })) A.neighbours-length I
-
--- buffers that hold a copy of a record
-pub copied-image : {words codes words' codes' : List ℕ} {a : ImageAnswer} → (words' ≡ words) × (codes' ≡ codes)
-    → IsImage (length words') (held_record (record_in words' codes')) a
-    → IsImage (length words) (held_record (record_in words codes)) a
-copied-image {words} {codes} {words'} {codes'} {a} e I =
-    subst (λ cs. IsImage (length words) (held_record (record_in words cs)) a) e.1
-    (subst (λ ws. IsImage (length ws) (held_record (record_in ws codes')) a) e.0 I)
+    J : IsImage n (held_record (record_in words codes)) answer graph signs list
+    J = subst (λ m. IsImage m (held_record (record_in words codes)) answer graph signs list) A.neighbours-length I

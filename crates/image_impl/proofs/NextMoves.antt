@@ -4,6 +4,7 @@ use mathlib.Core.List.{List, [], ◌∷◌}
 use mathlib.Core.Path.{ap, subst, sym, ◌∙◌, ◌≡◌}
 use Prim.Native.Nat.{◌+◌, ◌<◌, ℕ, ◌≤◌}
 use native.Mathlib.Omega.{arith}
+use Rattle.std.specs.Prelude.{IfNone, None, Option, Some}
 use lib.Bits.{bit_and}
 use lib.Count.{count_trailing_zeros}
 use lib.Dec.{lit<}
@@ -17,6 +18,11 @@ use Rattle.image_impl.proofs.TrackedRecords.{tracked-small}
 use Rattle.image_impl.proofs.WordMoves.{joined-below, word-alone, word-edge, word-joined, word-stopped}
 use Rattle.image.specs.Rule.{State, moves, state_of}
 use Rattle.image_impl.specs.internal.Working.{Complemented, Tracking, Working, joined_in, working_record}
+
+-- a clause about `None` asks for no more than its fact
+pub where-none : {A : Type 0} (o : Option A) {P : Type 0} → P → IfNone o P
+where-none None p = p
+where-none (Some v) p = tt
 
 module _ (n : ℕ) (w : Working) (T : Tracking n w)
     (room : w.count + length (moves n (state_of (working_record w))) ≤ 96) where

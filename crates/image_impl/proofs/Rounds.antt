@@ -151,10 +151,10 @@ module _ (n : ℕ) (start w : Working) (empty : start.count ≡ 0) (T : Tracking
     C = subst (λ m. Complemented m w (moves m S) r) tracking.long made
 
     -- a round that lists a vertex takes a C away
-    pub round-on : (r.count ≡ w.count → ⊥)
+    pub round-on : w.count < r.count
         → Reached n start r × (count n (bit r.c) < count n (bit w.c))
     round-on more = elim lower [
-      | inl H ↦ absurd (more (C.count ∙ omega (arith, ap length (stopped_none H))))
+      | inl H ↦ absurd (omega (arith, more, C.count, ap length (stopped_none H)))
       | inr f ↦ (falling-again f r C, falling-less f r C)
     ]
 

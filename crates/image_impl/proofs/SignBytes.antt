@@ -1,7 +1,7 @@
 -- The sign bytes of the image graph on words.
-use mathlib.Core.Bool.{◌&&◌, Bool, false}
+use mathlib.Core.Bool.{◌&&◌, false}
 use mathlib.Core.List.{List}
-use mathlib.Core.Path.{ap, ap₂, sym, ◌∙◌, ◌≡◌}
+use mathlib.Core.Path.{ap, ap₂, ◌∙◌, ◌≡◌}
 use Prim.Native.Nat.{◌<◌, ◌^◌, ℕ, ◌≤◌}
 use lib.ListN.{get_or}
 use Rattle.clifford.specs.Clifford.{Clifford}
@@ -16,12 +16,6 @@ use Rattle.record.specs.NeighbourWords.{graph_in}
 -- the sign at j: of X at j, and of Z at the neighbours of j
 abbrev pub SignAt : List ℕ → ℕ → ℕ → ℕ → ℕ → Type 0
 SignAt graph sx sz j v = v ≡ digit (bit sx j ⊕ dot (get_or graph j 0) sz)
-
--- a byte by its two tests
-pub sign-by : (sx sz around j : ℕ) (own others a b : Bool) → own ≡ bit sx j → others ≡ dot around sz → own ≡ a
-    →
-    others ≡ b → digit (a ⊕ b) ≡ digit (bit sx j ⊕ dot around sz)
-sign-by sx sz around j own others a b e f p q = ap₂ (λ a b. digit (a ⊕ b)) (sym p ∙ e) (sym q ∙ f)
 
 -- it is the sign of generator j, where the words hold the signs of the codes
 pub sign-formula : (n : ℕ) (words : List ℕ) (c : ℕ → Clifford) (sx sz : ℕ) → ((q : ℕ) → q < n → bit sx q ≡ (c q).sx)

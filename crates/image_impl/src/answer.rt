@@ -5,32 +5,17 @@ ghost use Rattle.words.specs.internal.Bits.{dot};
 ghost use Rattle.operations.specs.internal.InPlace.{Unrefused, record_in};
 ghost use Rattle.record.specs.Accepted.{AcceptedRecord};
 ghost use Rattle.record.specs.Lent.{held_record, lent_record};
-ghost use Rattle.image_impl.specs.internal.Answer.{IsImage};
-ghost use Rattle.image_impl.specs.internal.Working.{Tracking, working};
+ghost use Rattle.buffers.specs.internal.Numbers.{number_of};
+ghost use Rattle.image_impl.specs.internal.Answer.{IsImage, IsImageList};
+ghost use Rattle.image_impl.specs.internal.Working.{Ruled, Tracking, working};
 
 use crate::complementing::Tracked;
 use crate::image_loop::run_rule;
 use buffers::copies::copy_record;
+use buffers::refusals::Refusal;
 use clifford_impl::codes::Code;
 use clifford_impl::rows::action_of;
 use words::{dot_product, flip_where, has};
-
-// The number 0, 11 or 12; the neighbour words of the image graph, a sign byte for each vertex, and the list.
-#[derive(Drop)]
-pub struct ImageAnswer {
-    pub number: u8,
-    pub graph: [u64; 64],
-    pub signs: [u8; 64],
-    pub list: [u8; 96],
-    pub count: usize,
-}
-
-// The number, and how many vertices are on the list.
-#[derive(Clone, Copy)]
-pub struct Told {
-    pub number: u8,
-    pub count: usize,
-}
 
 // The bits C and D of the codes, and nothing on the list.
 fn begin(codes: &[u8]) -> Tracked
@@ -41,12 +26,9 @@ fn begin(codes: &[u8]) -> Tracked
 {
     let mut c = 0;
     let mut d = 0;
-    let mut q = 0;
-    while q < codes.len() {
-        let index = codes[q];
+    for (q, &index) in codes.iter().enumerate() {
         c = flip_where(c, q, Code { index }.c_bit());
         d = flip_where(d, q, Code { index }.d_bit());
-        q += 1;
     }
     Tracked { c, d, count: 0 }
 }
@@ -56,13 +38,7 @@ fn sign_byte(around: u64, sx: u64, sz: u64, j: usize) -> u8
     requires { j < 64 }
     ensures { result ≡ digit (bit sx j ⊕ dot around sz) }
 {
-    let own = has(sx, j);
-    let others = dot_product(around, sz);
-    if own {
-        if others { 0 } else { 1 }
-    } else {
-        if others { 1 } else { 0 }
-    }
+    u8::from(has(sx, j) != dot_product(around, sz))
 }
 
 // A sign byte for each vertex.
@@ -71,75 +47,73 @@ fn sign_bytes(graph: &[u64], sx: u64, sz: u64, signs: &mut [u8])
     ensures { (j : ℕ) → j < length graph.now → get_or signs.new j 0
         ≡ digit (bit sx j ⊕ dot (get_or graph.now j 0) sz) }
 {
-    let mut j = 0;
-    while j < graph.len() {
-        signs[j] = sign_byte(graph[j], sx, sz, j);
-        j += 1;
+    for (j, &around) in graph.iter().enumerate() {
+        signs[j] = sign_byte(around, sx, sz, j);
     }
 }
 
-// 11 where some C is left, 12 where X goes to Y somewhere, else 0.
-fn image_number(c: u64, y: u64) -> u8
-    ensures { result ≡ cond (eqb c 0) (cond (eqb y 0) 0 12) 11 }
+// Whether the rule ended with an image graph: some C may be left, or X go to Y somewhere.
+fn image_refusal(c: u64, y: u64) -> Result<(), Refusal>
+    ensures { number_of result ≡ cond (eqb c 0) (cond (eqb y 0) 0 12) 11 }
 {
     if c != 0 {
-        11
-    } else {
-        if y != 0 { 12 } else { 0 }
+        return Err(Refusal::ImageC);
     }
+    if y != 0 {
+        return Err(Refusal::ImageY);
+    }
+    Ok(())
 }
 
-// The image in lent buffers. The record is copied and the rule runs on the copy, whose words become the image graph;
-// the signs are written over its codes. X goes to Y where the image of X has both a z bit and an x bit.
+// The image rule on a copy of the record, in lent buffers.
+fn rule_on(
+    neighbours: &[u64],
+    codes: &[u8],
+    words: &mut [u64],
+    bytes: &mut [u8],
+    list: &mut [u8],
+) -> Tracked
+    requires unrefused { Unrefused (record_in neighbours.now codes.now) }
+    requires words_len { (length words.old ≡ length neighbours.now) × (length bytes.old ≡ length neighbours.now)
+        × (length list.old ≡ 96) }
+    ensures { Ruled (length neighbours.now) (held_record (record_in neighbours.now codes.now))
+        (working words.new bytes.new list.new result) }
+{
+    copy_record(neighbours, codes, words, bytes);
+    run_rule(words, bytes, list, begin(bytes))
+}
+
+// The image in lent buffers, and how many vertices are on the list. The rule runs on a copy of the record, whose words
+// become the image graph; the signs are written over its codes. X goes to Y where the image of X has both a z bit and an
+// x bit.
 pub fn image_in(
     neighbours: &[u64],
     codes: &[u8],
     words: &mut [u64],
     bytes: &mut [u8],
     list: &mut [u8],
-) -> Told
+) -> Result<usize, Refusal>
     requires unrefused { Unrefused (record_in neighbours.now codes.now) }
     requires words_len { (length words.old ≡ length neighbours.now) × (length bytes.old ≡ length neighbours.now)
         × (length list.old ≡ 96) }
     ensures { IsImage (length neighbours.now)
-        (held_record (record_in neighbours.now codes.now)) (record {
-          number = result.number;
-          graph = words.new;
-          signs = bytes.new;
-          list = list.new;
-          count = result.count;
-        }) }
+        (held_record (record_in neighbours.now codes.now)) result words.new bytes.new list.new }
 {
-    copy_record(neighbours, codes, words, bytes);
-    let end = run_rule(words, bytes, list, begin(bytes));
+    let end = rule_on(neighbours, codes, words, bytes, list);
     let left = action_of(bytes);
     sign_bytes(words, left.sx, left.sz, bytes);
-    Told {
-        number: image_number(end.c, left.b & left.d),
-        count: end.count,
-    }
+    image_refusal(end.c, left.b & left.d)?;
+    Ok(end.count)
 }
 
-// The image of the graph under the codes.
-pub fn image_answer(n: usize, neighbours: &[u64], codes: &[u8]) -> ImageAnswer
-    requires { AcceptedRecord (lent_record n neighbours.now codes.now) }
-    ensures { IsImage n (held_record (lent_record n neighbours.now codes.now)) result }
+// The vertices that the image rule complements, at the start of the list, whether or not the image is refused. Returns
+// how many there are.
+pub fn image_list(n: usize, neighbours: &[u64], codes: &[u8], list: &mut [u8]) -> usize
+    requires accepted { AcceptedRecord (lent_record n neighbours.now codes.now) }
+    requires list_len { length list.old ≡ 96 }
+    ensures { IsImageList n (held_record (lent_record n neighbours.now codes.now)) list.new result }
 {
-    let mut graph = [0u64; 64];
-    let mut signs = [0u8; 64];
-    let mut list = [0u8; 96];
-    let told = image_in(
-        neighbours,
-        codes,
-        &mut graph[..n],
-        &mut signs[..n],
-        &mut list,
-    );
-    ImageAnswer {
-        number: told.number,
-        graph,
-        signs,
-        list,
-        count: told.count,
-    }
+    let mut words = [0u64; 64];
+    let mut bytes = [0u8; 64];
+    rule_on(neighbours, codes, &mut words[..n], &mut bytes[..n], list).count
 }

@@ -1,5 +1,5 @@
 // The loop of the image rule.
-ghost use Rattle.std.specs.Prelude.{◌&&◌, not, ◌≡◌, ◌+◌, ◌<◌, ◌≤◌, eqb, length};
+ghost use Rattle.std.specs.Prelude.{◌&&◌, IfNone, IfSome, not, ◌≡◌, ◌+◌, ◌<◌, ◌≤◌, eqb, length};
 ghost use Rattle.std.specs.Int.Bits.{bit_and};
 ghost use Rattle.words.specs.Bits.{bit};
 ghost use Rattle.words.specs.Search.{first};
@@ -23,44 +23,52 @@ fn joined(around: u64, c: u64, j: usize) -> bool
     has(c, j) & (around & c != 0)
 }
 
-// The smallest vertex of the set c that has a neighbour in c; n where there is none.
-fn first_joined(neighbours: &[u64], c: u64) -> usize
+// The smallest vertex of the set c that has a neighbour in c.
+fn first_joined(neighbours: &[u64], c: u64) -> Option<usize>
     requires { length neighbours.now ≤ 64 }
-    ensures { result ≡ first (length neighbours.now) (joined_in neighbours.now c) }
+    ensures some { IfSome result (λ j. (j ≡ first (length neighbours.now) (joined_in neighbours.now c))
+        × (j < length neighbours.now)) }
+    ensures none { IfNone result
+        (length neighbours.now ≡ first (length neighbours.now) (joined_in neighbours.now c)) }
 {
-    let mut j = 0;
-    while j < neighbours.len() {
-        if joined(neighbours[j], c, j) {
-            return j;
+    for (j, &around) in neighbours.iter().enumerate() {
+        if joined(around, c, j) {
+            return Some(j);
         }
-        j += 1;
     }
-    neighbours.len()
+    None
 }
 
-// The next complementations. Where no vertex has both bits 1, C = 1 means D = 0; and the smallest vertex with a
-// neighbour of its kind has only larger ones.
-fn next_moves(neighbours: &mut [u64], codes: &mut [u8], list: &mut [u8], at: Tracked) -> Tracked
+// The next complementations, if there are any. Where no vertex has both bits 1, C = 1 means D = 0; and the smallest
+// vertex with a neighbour of its kind has only larger ones.
+fn next_moves(
+    neighbours: &mut [u64],
+    codes: &mut [u8],
+    list: &mut [u8],
+    at: Tracked,
+) -> Option<Tracked>
     requires { Tracking (length neighbours.old) (working neighbours.old codes.old list.old at)
         × (at.count + length (moves (length neighbours.old)
         (state_of (working_record (working neighbours.old codes.old list.old at)))) ≤ 96) }
-    ensures { Complemented (length neighbours.old)
+    ensures some { IfSome result (λ next. Complemented (length neighbours.old)
         (working neighbours.old codes.old list.old at)
         (moves (length neighbours.old)
         (state_of (working_record (working neighbours.old codes.old list.old at))))
-        (working neighbours.new codes.new list.new result) }
+        (working neighbours.new codes.new list.new next) × (at.count < next.count)) }
+    ensures none { IfNone result (Complemented (length neighbours.old)
+        (working neighbours.old codes.old list.old at)
+        (moves (length neighbours.old)
+        (state_of (working_record (working neighbours.old codes.old list.old at))))
+        (working neighbours.new codes.new list.new at)) }
 {
     let c = at.c;
     let both = c & at.d;
     if both != 0 {
-        return complement_at(neighbours, codes, list, at, smallest(both));
+        return Some(complement_at(neighbours, codes, list, at, smallest(both)));
     }
-    let j = first_joined(neighbours, c);
-    if j == neighbours.len() {
-        return at;
-    }
+    let j = first_joined(neighbours, c)?;
     let k = smallest(neighbours[j] & c);
-    triple_at(neighbours, codes, list, at, j, k)
+    Some(triple_at(neighbours, codes, list, at, j, k))
 }
 
 // The image rule: the next complementations until there are none.
@@ -79,11 +87,8 @@ pub fn run_rule(
         (working neighbours.new codes.new list.new result) }
 {
     let mut at = start;
-    loop {
-        let next = next_moves(neighbours, codes, list, at);
-        if next.count == at.count {
-            return next;
-        }
+    while let Some(next) = next_moves(neighbours, codes, list, at) {
         at = next;
     }
+    at
 }

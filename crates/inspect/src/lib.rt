@@ -1,25 +1,18 @@
 // The codes' tables and the arithmetic of rows, exported for tests. Not part of the engine's public calls.
 #![tactic(auto)]
 
-ghost use Rattle.std.specs.Prelude.{◌≡◌, ◌<◌};
-ghost use Rattle.words.specs.Bits.{digit};
+ghost use Rattle.std.specs.Prelude.{◌≡◌};
 ghost use Rattle.inspect.specs.internal.Answers.{bits_answer, image_answer, inverse_answer, number, then_answer};
 ghost use Rattle.pauli.specs.Pauli.{anticommute, exponent, i⁰, mul, row};
 
 use clifford_impl::codes::Code;
 use pauli::{clashes, letter_of, letters_phase, x_bit, z_bit};
 
-fn digit_of(b: bool) -> u8
-    ensures { (result ≡ digit b) × (result < 2) }
-{
-    if b { 1 } else { 0 }
-}
-
 // 4 × sign + 2z + x.
 fn number_of(s: bool, z: bool, x: bool) -> u8
     ensures { result ≡ number s z x }
 {
-    4 * digit_of(s) + 2 * digit_of(z) + digit_of(x)
+    4 * u8::from(s) + 2 * u8::from(z) + u8::from(x)
 }
 
 // First a, then b; 24 where one of them is not a code.

@@ -1,6 +1,5 @@
 pub mod Accepted
 pub mod Digits
-pub mod Fields
 pub mod GeneratorExamples
 pub mod JobTextExamples
 pub mod KeptLaws

@@ -6,6 +6,7 @@ ghost use Rattle.jobs.specs.Draws as draws;
 use crate::{Op, Step};
 
 // The next state, which is the draw.
+#[tactic(auto, unfolding(crate::specs::Draws::draw))]
 pub fn draw(s: u64) -> u64
     ensures { result ≡ draws.draw s }
 {
@@ -27,35 +28,36 @@ pub fn drawn_step(n: u64, d: u64) -> Step
     ensures { result ≡ step_of n d }
 {
     let a = below(d / 8, n);
-    if d % 3 == 0 {
-        return Step {
+    match d % 3 {
+        0 => Step {
             op: Op::Gate,
-            a: a,
+            a,
             b: 0,
             value: below(d / 32768, 24),
-        };
-    }
-    if d % 3 == 1 {
-        let b = below(d / 512, n);
-        if a == b {
-            return Step {
-                op: Op::Gate,
-                a: a,
-                b: 0,
-                value: 8,
-            };
+        },
+        1 => {
+            let b = below(d / 512, n);
+            if a == b {
+                Step {
+                    op: Op::Gate,
+                    a,
+                    b: 0,
+                    value: 8,
+                }
+            } else {
+                Step {
+                    op: Op::Cz,
+                    a,
+                    b,
+                    value: 0,
+                }
+            }
         }
-        return Step {
-            op: Op::Cz,
-            a: a,
-            b: b,
-            value: 0,
-        };
-    }
-    Step {
-        op: Op::Measure,
-        a: a,
-        b: 0,
-        value: 2 * below(d / 32768, 3) + below(d >> 40, 2),
+        _ => Step {
+            op: Op::Measure,
+            a,
+            b: 0,
+            value: 2 * below(d / 32768, 3) + below(d >> 40, 2),
+        },
     }
 }

@@ -33,7 +33,7 @@ pub struct Step {
 }
 
 // What a step answers: the number of its refusal, and of an accepted measurement the outcome and whether it was
-// determined.
+// determined: three numbers, as the definitions of specs/ and C have them.
 #[derive(Clone, Copy)]
 pub struct Answer {
     pub refusal: u8,
@@ -45,30 +45,14 @@ pub struct Answer {
 fn without_b(op: Op) -> bool
     ensures { result ≡ without_b op }
 {
-    match op {
-        Op::Gate => true,
-        Op::Cz => false,
-        Op::Measure => true,
-        Op::Complement => true,
-        Op::Pivot => false,
-        Op::Observe => true,
-        Op::Renew => true,
-    }
+    !matches!(op, Op::Cz | Op::Pivot)
 }
 
 // Whether the operation does not use its value.
 fn without_value(op: Op) -> bool
     ensures { result ≡ without_value op }
 {
-    match op {
-        Op::Gate => false,
-        Op::Cz => true,
-        Op::Measure => false,
-        Op::Complement => true,
-        Op::Pivot => true,
-        Op::Observe => false,
-        Op::Renew => false,
-    }
+    matches!(op, Op::Cz | Op::Complement | Op::Pivot)
 }
 
 // The least number that is no value of the operation: no field reaches 65536, of those that use none.
@@ -77,12 +61,9 @@ fn value_limit(op: Op) -> u32
 {
     match op {
         Op::Gate => 24,
-        Op::Cz => 65536,
-        Op::Measure => 6,
-        Op::Complement => 65536,
-        Op::Pivot => 65536,
-        Op::Observe => 6,
+        Op::Measure | Op::Observe => 6,
         Op::Renew => 12,
+        Op::Cz | Op::Complement | Op::Pivot => 65536,
     }
 }
 
@@ -93,34 +74,26 @@ pub fn unused_set(op: Op, b: u16, value: u16) -> bool
     (without_b(op) & (b != 0)) | (without_value(op) & (value != 0))
 }
 
-// Whether the value is no code, or for a measurement no Pauli and outcome. Of a renewal's code its parity is not looked at.
+// Whether the value is no code, or for a measurement no Pauli and outcome. Of a renewal's code its parity is not looked
+// at.
 pub fn wrong_value(op: Op, value: u16) -> bool
     ensures { result ≡ wrong_value op value }
 {
     value_limit(op) <= value as u32
 }
 
-// The operation of a number.
+// The operation of a number. No `From`: the number is the C interface's, and its numbers above 6 are refused elsewhere.
+#[tactic(auto, unfolding(crate::specs::Parallel::numbered_op))]
 pub fn op_of(k: u8) -> Op
     ensures { result ≡ numbered_op k }
 {
-    if k == 0 {
-        return Op::Gate;
+    match k {
+        0 => Op::Gate,
+        1 => Op::Cz,
+        2 => Op::Measure,
+        3 => Op::Complement,
+        4 => Op::Pivot,
+        5 => Op::Observe,
+        _ => Op::Renew,
     }
-    if k == 1 {
-        return Op::Cz;
-    }
-    if k == 2 {
-        return Op::Measure;
-    }
-    if k == 3 {
-        return Op::Complement;
-    }
-    if k == 4 {
-        return Op::Pivot;
-    }
-    if k == 5 {
-        return Op::Observe;
-    }
-    Op::Renew
 }

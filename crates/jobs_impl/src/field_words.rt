@@ -1,82 +1,73 @@
 // Reads the operation of a step, letter by letter.
 ghost use Rattle.std.specs.Prelude.{◌≡◌};
-ghost use Rattle.jobs.specs.internal.Scan.{with_op, first_op, after_o, op_for, word_step};
+ghost use Rattle.jobs.specs.internal.Scan.{first_op, after_o, op_for, word_step};
 
 use jobs::Op;
 use jobs::letters::op_letters;
 use jobs::scan::{Field, Place, Scan};
 
-fn with_op(s: Scan, op: Op, place: Place) -> Scan
-    ensures { result ≡ with_op s op place }
-{
-    Scan {
-        place,
-        n: s.n,
-        op,
-        a: s.a,
-        b: s.b,
-        number: s.number,
-        count: s.count,
-    }
-}
-
+#[tactic(auto, unfolding(jobs::specs::internal::Scan::first_op))]
 fn first_op(b: u8) -> Op
     ensures { result ≡ first_op b }
 {
-    if b == b'g' {
-        return Op::Gate;
+    match b {
+        b'g' => Op::Gate,
+        b'c' => Op::Cz,
+        b'm' => Op::Measure,
+        _ => Op::Pivot,
     }
-    if b == b'c' {
-        return Op::Cz;
-    }
-    if b == b'm' {
-        return Op::Measure;
-    }
-    Op::Pivot
 }
 
 fn after_o(op: Op) -> Op
     ensures { result ≡ after_o op }
 {
     match op {
-        Op::Gate => Op::Gate,
         Op::Cz => Op::Complement,
-        Op::Measure => Op::Measure,
-        Op::Complement => Op::Complement,
-        Op::Pivot => Op::Pivot,
-        Op::Observe => Op::Observe,
-        Op::Renew => Op::Renew,
+        _ => op,
     }
 }
 
 // The operation whose letter k the byte b can be.
+#[tactic(auto, unfolding(jobs::specs::internal::Scan::op_for))]
 fn op_for(k: usize, op: Op, b: u8) -> Op
     ensures { result ≡ op_for k op b }
 {
-    if k == 0 {
-        return first_op(b);
+    match (k, b) {
+        (0, _) => first_op(b),
+        (1, b'o') => after_o(op),
+        _ => op,
     }
-    if (k == 1) & (b == b'o') {
-        return after_o(op);
-    }
-    op
 }
 
 // After k letters of the operation.
+#[tactic(auto, unfolding(jobs::specs::internal::Scan::word_step))]
 pub fn word_step(k: usize, s: Scan, b: u8) -> Scan
     ensures { result ≡ word_step k s b }
 {
-    let held = s.op;
     if 11 <= k {
-        return with_op(s, held, Place::Broken);
+        return Scan {
+            place: Place::Broken,
+            ..s
+        };
     }
-    let op = op_for(k, held, b);
+    let op = op_for(k, s.op, b);
     let word = op_letters(op);
     if b != word[k] {
-        return with_op(s, held, Place::Broken);
+        return Scan {
+            place: Place::Broken,
+            ..s
+        };
     }
     if b == b' ' {
-        return with_op(s, op, Place::First(Field::A));
+        return Scan {
+            place: Place::First(Field::A),
+            op,
+            ..s
+        };
     }
-    with_op(s, op, Place::Word(k + 1))
+    Scan {
+        place: Place::Word(k + 1),
+        op,
+        ..s
+    }
 }

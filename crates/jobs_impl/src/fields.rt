@@ -1,124 +1,94 @@
 // Reads the decimal fields of a job text, digit by digit.
-ghost use Rattle.std.specs.Prelude.{◌≡◌};
-ghost use Rattle.jobs.specs.internal.Scan.{with_number, digit_value, first_step, separator, one_more, ended, more_step};
+ghost use Rattle.std.specs.Prelude.{◌≡◌, ◌<◌, IfSome};
+ghost use Rattle.std.specs.Option.{unwrap_or};
+ghost use Rattle.jobs.specs.internal.Scan.{digit_value, first_step, separator, ended, more_step};
 
 use jobs::scan::{Field, Place, Scan};
+use text_impl::scanning::one_more;
 
-fn with_number(s: Scan, number: u16, place: Place) -> Scan
-    ensures { result ≡ with_number s number place }
+// The value of a decimal digit, where the byte is one.
+#[tactic(auto, unfolding(jobs::specs::internal::Scan::digit_value))]
+fn digit_value(b: u8) -> Option<u8>
+    ensures value { unwrap_or result 10 ≡ digit_value b }
+    ensures below { IfSome result (λ d. d < 10) }
 {
-    let op = s.op;
-    Scan {
-        place,
-        n: s.n,
-        op,
-        a: s.a,
-        b: s.b,
-        number,
-        count: s.count,
+    match b {
+        b'0'..=b'9' => Some(b - b'0'),
+        _ => None,
     }
-}
-
-// The value of a decimal digit; 10 for any other byte.
-fn digit_value(b: u8) -> u8
-    ensures { result ≡ digit_value b }
-{
-    if b < 48 {
-        return 10;
-    }
-    if b < 58 {
-        return b - 48;
-    }
-    10
 }
 
 // At the first digit of a field.
+#[tactic(auto, unfolding(jobs::specs::internal::Scan::first_step))]
 pub fn first_step(f: Field, s: Scan, b: u8) -> Scan
     ensures { result ≡ first_step f s b }
 {
-    let d = digit_value(b);
-    if d < 10 {
-        return with_number(s, d as u16, Place::More(f));
+    match digit_value(b) {
+        Some(d) => Scan {
+            place: Place::More(f),
+            number: u16::from(d),
+            ..s
+        },
+        None => Scan {
+            place: Place::Broken,
+            ..s
+        },
     }
-    with_number(s, s.number, Place::Broken)
 }
 
 fn separator_of(f: Field) -> u8
     ensures { result ≡ separator f }
 {
     match f {
-        Field::N => b'\n',
-        Field::A => b' ',
-        Field::B => b' ',
-        Field::Value => b'\n',
+        Field::N | Field::Value => b'\n',
+        Field::A | Field::B => b' ',
     }
 }
 
-fn one_more(n: usize) -> usize
-    ensures { result ≡ one_more n }
-{
-    if n < 4097 { n + 1 } else { n }
-}
-
 // A field has ended.
+#[tactic(auto, unfolding(jobs::specs::internal::Scan::one_more))]
 fn field_end(f: Field, s: Scan) -> Scan
     ensures { result ≡ ended f s }
 {
-    let op = s.op;
     match f {
         Field::N => Scan {
             place: Place::Head(7),
             n: s.number,
-            op,
-            a: s.a,
-            b: s.b,
-            number: s.number,
-            count: s.count,
+            ..s
         },
         Field::A => Scan {
             place: Place::First(Field::B),
-            n: s.n,
-            op,
             a: s.number,
-            b: s.b,
-            number: s.number,
-            count: s.count,
+            ..s
         },
         Field::B => Scan {
             place: Place::First(Field::Value),
-            n: s.n,
-            op,
-            a: s.a,
             b: s.number,
-            number: s.number,
-            count: s.count,
+            ..s
         },
         Field::Value => Scan {
             place: Place::Word(0),
-            n: s.n,
-            op,
-            a: s.a,
-            b: s.b,
-            number: s.number,
-            count: one_more(s.count),
+            count: one_more::<4097>(s.count),
+            ..s
         },
     }
 }
 
 // After a digit of a field.
+#[tactic(auto, unfolding(jobs::specs::internal::Scan::more_step))]
 pub fn more_step(f: Field, s: Scan, b: u8) -> Scan
     ensures { result ≡ more_step f s b }
 {
-    let d = digit_value(b);
-    let v = s.number;
-    if d < 10 {
-        if (0 < v) & (v < 100) {
-            return with_number(s, v * 10 + d as u16, Place::More(f));
-        }
-        return with_number(s, v, Place::Broken);
+    match digit_value(b) {
+        Some(d) if 0 < s.number && s.number < 100 => Scan {
+            place: Place::More(f),
+            number: s.number * 10 + u16::from(d),
+            ..s
+        },
+        None if b == separator_of(f) => field_end(f, s),
+        _ => Scan {
+            place: Place::Broken,
+            ..s
+        },
     }
-    if b == separator_of(f) {
-        return field_end(f, s);
-    }
-    with_number(s, v, Place::Broken)
 }

@@ -13,17 +13,16 @@ use jobs::{Op, Step};
 use text_impl::printing::{put, put_bytes, put_decimal, put_field};
 
 // How many letters an operation and the space behind it have.
+#[tactic(auto, unfolding(jobs::specs::Text::op_word))]
 fn op_length(op: Op) -> usize
     ensures { result ≡ length (op_word op ++ space) }
 {
     match op {
-        Op::Gate => 5,
         Op::Cz => 3,
-        Op::Measure => 8,
+        Op::Gate => 5,
+        Op::Pivot | Op::Renew => 6,
+        Op::Measure | Op::Observe => 8,
         Op::Complement => 11,
-        Op::Pivot => 6,
-        Op::Observe => 8,
-        Op::Renew => 6,
     }
 }
 
@@ -41,12 +40,11 @@ fn put_step(s: Step, at: usize, out: &mut [u8]) -> usize
     requires { Small s × (at + length (step_text s) ≤ length out.old) }
     ensures { Printed (step_text s) at out.old out.new result }
 {
-    let op = s.op;
-    let after_op = put_op(op, at, out);
+    let after_op = put_op(s.op, at, out);
     let after_a = put_field(s.a as u8, after_op, out);
     let after_b = put_field(s.b as u8, after_a, out);
     let after_value = put_decimal(s.value as u8, after_b, out);
-    put(10, after_value, out)
+    put(b'\n', after_value, out)
 }
 
 // The three lines before the steps.
@@ -66,11 +64,9 @@ pub fn put_job(n: u64, count: u64, seed: u64, out: &mut [u8]) -> usize
 {
     let mut at = put_head(n, out);
     let mut s = seed;
-    let mut left = count;
-    while 0 < left {
+    for _ in 0..count {
         s = draw(s);
         at = put_step(drawn_step(n, s), at, out);
-        left -= 1;
     }
     at
 }

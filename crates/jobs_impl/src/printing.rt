@@ -15,17 +15,18 @@ fn put_number(k: u16, at: usize, out: &mut [u8]) -> usize
         return put_decimal(k as u8, at, out);
     }
     let hundreds = put_decimal((k / 100) as u8, at, out);
-    let tens = put(48 + (k / 10 % 10) as u8, hundreds, out);
-    put(48 + (k % 10) as u8, tens, out)
+    let tens = put(b'0' + (k / 10 % 10) as u8, hundreds, out);
+    put(b'0' + (k % 10) as u8, tens, out)
 }
 
-// A decimal number below 10,000 and the space behind it.
+// A decimal number below 10,000 and the space behind it. No type parameter joins this with `put_field` of text_impl:
+// they share one call of `put`.
 pub fn put_long_field(k: u16, at: usize, out: &mut [u8]) -> usize
     requires { (k < 10000) × (at + 5 ≤ length out.old) }
     ensures { Printed (digits 4 k ++ space) at out.old out.new result }
 {
     let next = put_number(k, at, out);
-    put(32, next, out)
+    put(b' ', next, out)
 }
 
 // The names of the results. Returns the place behind them.
@@ -55,5 +56,5 @@ pub fn print_result(
     let after_refusal = put_field(refusal, after_k, out);
     let after_outcome = put_field(outcome, after_refusal, out);
     let after_determined = put_decimal(determined, after_outcome, out);
-    put(10, after_determined, out)
+    put(b'\n', after_determined, out)
 }

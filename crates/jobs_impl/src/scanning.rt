@@ -1,10 +1,13 @@
-// Reads the text of a job in blocks of any size. A scan is a few numbers; the first 4,096 steps are kept together beside
-// it, each with its operation, qubits and value.
+// Reads the text of a job in blocks of any size. A scan is a few numbers; the first 4,096 steps are kept together
+// beside it, each with its operation, qubits and value.
 ghost use Rattle.std.specs.Prelude.{◌≡◌};
-ghost use Rattle.jobs.specs.internal.Scan.{as_reading, at_line, begin, empty, fed, head_step, moved, scan_byte, step_of, verdict};
+ghost use Rattle.buffers.specs.internal.Numbers.{number_of};
+ghost use Rattle.jobs.specs.internal.Scan.{as_reading, at_line, begin, empty, fed, head_step, scan_byte, step_of};
+ghost use Rattle.jobs.specs.internal.Scan.{verdict};
 
 use crate::field_words::word_step;
 use crate::fields::{first_step, more_step};
+use buffers::refusals::Refusal;
 use jobs::scan::{Field, Place, Scan};
 use jobs::{Op, Step};
 
@@ -18,22 +21,8 @@ pub struct Reading {
 // The bytes of the head that are the same in every job.
 const HEAD: [u8; 20] = *b"qubits\nop a b value\n";
 
-fn at_place(s: Scan, place: Place) -> Scan
-    ensures { result ≡ moved s place }
-{
-    let op = s.op;
-    Scan {
-        place,
-        n: s.n,
-        op,
-        a: s.a,
-        b: s.b,
-        number: s.number,
-        count: s.count,
-    }
-}
-
 // At byte k of the head.
+#[tactic(auto, unfolding(jobs::specs::internal::Scan::head_step))]
 fn head_step(k: usize, b: u8) -> Place
     ensures { result ≡ head_step k b }
 {
@@ -53,12 +42,15 @@ fn head_step(k: usize, b: u8) -> Place
 }
 
 // The scan after one more byte.
+#[tactic(auto, unfolding(jobs::specs::internal::Scan::scan_byte))]
 fn scan_byte(s: Scan, b: u8) -> Scan
     ensures { result ≡ scan_byte s b }
 {
-    let place = s.place;
-    match place {
-        Place::Head(k) => at_place(s, head_step(k, b)),
+    match s.place {
+        Place::Head(k) => Scan {
+            place: head_step(k, b),
+            ..s
+        },
         Place::Word(k) => word_step(k, s, b),
         Place::First(f) => first_step(f, s, b),
         Place::More(f) => more_step(f, s, b),
@@ -67,6 +59,7 @@ fn scan_byte(s: Scan, b: u8) -> Scan
 }
 
 // The scan of the empty text.
+#[tactic(auto, unfolding(jobs::specs::internal::Scan::begin))]
 fn start() -> Scan
     ensures { result ≡ begin }
 {
@@ -91,43 +84,41 @@ pub fn unread() -> Reading
         b: 0,
         value: 0,
     };
-    let scan = start();
-    let steps = [none; 4096];
-    Reading { scan, steps }
+    Reading {
+        scan: start(),
+        steps: [none; 4096],
+    }
 }
 
 // The step that the scan holds.
 fn step_of(s: Scan) -> Step
     ensures { result ≡ step_of s }
 {
-    let op = s.op;
     Step {
-        op,
+        op: s.op,
         a: s.a,
         b: s.b,
         value: s.number,
     }
 }
 
-// What is read after a block more. Where a byte ends one of the first 4,096 steps, that step is kept behind those before
-// it.
+// What is read after a block more. Where a byte ends one of the first 4,096 steps, that step is kept behind those
+// before it. No trait joins this with `scan_block` of text_impl, which keeps a line in three lent arrays: a trait of both
+// would have the loop in one line, and a method for each of the other six.
 pub fn read_block(from: Reading, block: &[u8]) -> Reading
     ensures { as_reading result.scan result.steps ≡ fed (as_reading from.scan from.steps)
         block.now }
 {
     let mut scan = from.scan;
     let mut steps = from.steps;
-    let mut i = 0;
-    while i < block.len() {
-        let next = scan_byte(scan, block[i]);
+    for &b in block {
+        let next = scan_byte(scan, b);
         let row = scan.count;
         let count = next.count;
         if (row < count) & (row < 4096) {
-            let step = step_of(scan);
-            steps[row] = step;
+            steps[row] = step_of(scan);
         }
         scan = next;
-        i += 1;
     }
     Reading { scan, steps }
 }
@@ -136,29 +127,22 @@ pub fn read_block(from: Reading, block: &[u8]) -> Reading
 fn at_line(place: Place) -> bool
     ensures { result ≡ at_line place }
 {
-    match place {
-        Place::Head(_) => false,
-        Place::Word(k) => k == 0,
-        Place::First(_) => false,
-        Place::More(_) => false,
-        Place::Broken => false,
-    }
+    matches!(place, Place::Word(0))
 }
 
-// The text ends: its number, 0 where it is accepted.
-pub fn judge(s: Scan) -> u8
-    ensures { result ≡ verdict s }
+// The text ends: whether it is accepted.
+#[tactic(auto, unfolding(jobs::specs::internal::Scan::verdict, buffers::specs::Refusals::first_fitting))]
+pub fn judge(s: Scan) -> Result<(), Refusal>
+    ensures { number_of result ≡ verdict s }
 {
-    let place = s.place;
-    if !at_line(place) {
-        return 1;
+    if !at_line(s.place) {
+        return Err(Refusal::Form);
     }
     if 4096 < s.count {
-        return 15;
+        return Err(Refusal::Steps);
     }
-    let n = s.n;
-    if (n == 0) | (64 < n) {
-        return 2;
+    if (s.n == 0) | (64 < s.n) {
+        return Err(Refusal::Count);
     }
-    0
+    Ok(())
 }

@@ -15,7 +15,7 @@ use Rattle.buffers.specs.Refusals.{first_fitting}
 use Rattle.calls.specs.internal.Reductions.{reduce_call}
 use Rattle.buffers.proofs.Calling.{written_all}
 use Rattle.buffers.specs.Calls.{Call}
-use Rattle.text_replies.proofs.Answering.{number_is, number_small}
+use Rattle.text_replies.proofs.Answering.{number_is}
 use Rattle.text_replies.specs.internal.Places.{Lent, list_at}
 use Rattle.operations.specs.internal.InPlace.{Unrefused, record_in}
 use Rattle.jobs.specs.Table.{table_text}
@@ -58,10 +58,6 @@ module _ (l : GeneratorList) (nb cs words bytes out : List ℕ) (W : RoomFor l.n
       (omega (arith, e, most), omega (arith, e, most, W.room))
 
   module _ (number : ℕ) (nb' cs' : List ℕ) (C : Call (reduce_call l nb cs nb' cs') number) where
-    -- a refusal has at most two digits
-    pub refusal-small : number < 100
-    refusal-small = number_small l nb cs out lent number nb' cs' C
-
     number-found : number ≡ first_fitting (plot_lines l)
     number-found = number_is l nb cs out lent number nb' cs' C ∙ sym (same_number l W.few)
 

@@ -8,8 +8,8 @@ ghost use Rattle.jobs_replies.specs.internal.Rooms.{RoomFor};
 
 use crate::tables::print_table;
 use amplitude_impl::lowest::lowest;
+use buffers::refusals::Refusal;
 use call_lists::reduce;
-use text::scan::Verdict;
 use text_impl::printing::print_refusal;
 use words::single;
 
@@ -31,21 +31,22 @@ fn print_plot(
         (plot_answer (record { n = n; signs = signs.now; z = z.now; x = x.now }))
         0 out.old out.new result }
 {
-    let number = reduce(n as u64, signs, z, x, neighbours, codes);
-    if number != 0 {
-        return print_refusal(number, out);
+    match reduce(n as u64, signs, z, x, neighbours, codes) {
+        Ok(()) => {
+            let low = lowest(neighbours, codes, words, bytes);
+            print_table(neighbours, codes, low, single(n), out)
+        }
+        Err(refusal) => print_refusal(refusal, out),
     }
-    let low = lowest(neighbours, codes, words, bytes);
-    print_table(neighbours, codes, low, single(n), out)
 }
 
 // Prints the answer to the list of n generators at the start of the buffers.
-fn plot_answer(n: usize, signs: [u8; 64], z: [u64; 64], x: [u64; 64], out: &mut [u8]) -> usize
+fn plot_answer(n: usize, signs: &[u8; 64], z: &[u64; 64], x: &[u64; 64], out: &mut [u8]) -> usize
     requires { longest_table ≤ length out.old }
-    ensures { Printed (plot_answer (list_at n signs z x)) 0 out.old out.new result }
+    ensures { Printed (plot_answer (list_at n signs.now z.now x.now)) 0 out.old out.new result }
 {
     if 10 < n {
-        return print_refusal(2, out);
+        return print_refusal(Refusal::Count, out);
     }
     let mut neighbours = [0u64; 10];
     let mut codes = [0u8; 10];
@@ -66,18 +67,18 @@ fn plot_answer(n: usize, signs: [u8; 64], z: [u64; 64], x: [u64; 64], out: &mut 
 
 // Prints the answer to the text that was scanned, whatever text it was.
 pub fn plot_reply(
-    verdict: Verdict,
-    signs: [u8; 64],
-    z: [u64; 64],
-    x: [u64; 64],
+    verdict: Option<usize>,
+    signs: &[u8; 64],
+    z: &[u64; 64],
+    x: &[u64; 64],
     out: &mut [u8],
 ) -> usize
     requires { longest_table ≤ length out.old }
-    ensures { (t : List ℕ) → ScanOf t verdict signs z x
+    ensures { (t : List ℕ) → ScanOf t verdict signs.now z.now x.now
         → ListResponse plot_answer t out.old out.new result }
 {
-    if verdict.has_form {
-        return plot_answer(verdict.count, signs, z, x, out);
+    match verdict {
+        Some(n) => plot_answer(n, signs, z, x, out),
+        None => print_refusal(Refusal::Form, out),
     }
-    print_refusal(1, out)
 }

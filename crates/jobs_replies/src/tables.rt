@@ -37,9 +37,9 @@ fn print_point(y: u16, line: PlotLine, at: usize, out: &mut [u8]) -> usize
     ensures { Printed (point_text y line) at out.old out.new result }
 {
     let after_y = put_long_field(y, at, out);
-    let after_re = put_float(line.re, 32, after_y, out);
-    let after_im = put_float(line.im, 32, after_re, out);
-    put_float(line.p, 10, after_im, out)
+    let after_re = put_float(line.re, b' ', after_y, out);
+    let after_im = put_float(line.im, b' ', after_re, out);
+    put_float(line.p, b'\n', after_im, out)
 }
 
 // The table of a record of reduced form with this smallest supported word: the names, and the lines of the words below
@@ -52,11 +52,9 @@ pub fn print_table(neighbours: &[u64], codes: &[u8], low: u64, count: u64, out: 
         0 out.old out.new result }
 {
     let mut at = print_plot_names(0, out);
-    let mut y = 0;
-    while y < count {
+    for y in 0..count {
         let line = line_at(neighbours, codes, low, y);
         at = print_point(y as u16, line, at, out);
-        y += 1;
     }
     at
 }

@@ -1,12 +1,14 @@
 // The lines of the refusals that speak of a record with used qubits.
 #![tactic(auto)]
 
+ghost use Rattle.buffers.specs.internal.Numbers.{number_of};
 ghost use Rattle.std.specs.Prelude.{not, ◌||◌, ◌≡◌, ◌<◌, ◌≤◌, ◌^◌, eqb, leb, length};
 ghost use Rattle.buffers.specs.Refusals.{first_fitting};
 ghost use Rattle.operations.specs.internal.InPlace.{record_in};
 ghost use Rattle.record_impl.specs.internal.Looks.{Looked};
 ghost use Rattle.operations.specs.Used.{used_code, used_lines, used_record, used_wrong};
 
+use buffers::refusals::{Refusal, refuses_shape};
 use record_impl::checks::record_number;
 use words::{flip, smallest, stray};
 
@@ -37,9 +39,9 @@ fn used_wrong(neighbours: &[u64], codes: &[u8], used: u64) -> bool
     false
 }
 
-// The first line of a record that holds; 0 where none does. `word`: a further word that has no bit at or above n;
-// `others`: a further buffer of the call has a wrong length; `looked`: the caller has looked at the codes, and `over` says
-// whether one is 24 or more; `six`: line 6 holds of a further argument.
+// The first line of a record that holds; `Ok` where none does. `word`: a further word that has no bit at or above n;
+// `others`: a further buffer of the call has a wrong length; `over`: whether a code is 24 or more, where the caller has
+// looked; `six`: line 6 holds of a further argument.
 pub fn used_number(
     n: u64,
     neighbours: &[u64],
@@ -47,32 +49,26 @@ pub fn used_number(
     used: u64,
     word: u64,
     others: bool,
-    looked: bool,
-    over: bool,
+    over: Option<bool>,
     six: bool,
-) -> u8
-    requires { Looked looked codes.now over }
-    ensures { result ≡ first_fitting (used_lines (used_record n neighbours.now codes.now used)
+) -> Result<(), Refusal>
+    requires { Looked over codes.now }
+    ensures { number_of result ≡ first_fitting (used_lines (used_record n neighbours.now codes.now used)
         others (leb (2 ^ n) word) six) }
 {
-    let number = record_number(n, neighbours, codes, others, looked, over, six);
-    if number == 2 {
-        return number;
-    }
-    if number == 4 {
-        return number;
+    let record = record_number(n, neighbours, codes, others, over, six);
+    if refuses_shape(record) {
+        return record;
     }
     let count = n as usize;
     if stray(used, count) | stray(word, count) {
-        return 5;
+        return Err(Refusal::Stray);
     }
-    if number != 0 {
-        return number;
-    }
+    record?;
     if used_wrong(neighbours, codes, used) {
-        7
+        Err(Refusal::Graph)
     } else {
-        0
+        Ok(())
     }
 }
 
@@ -85,9 +81,9 @@ pub fn used_refusal(
     word: u64,
     others: bool,
     six: bool,
-) -> u8
-    ensures { result ≡ first_fitting (used_lines (used_record n neighbours.now codes.now used)
+) -> Result<(), Refusal>
+    ensures { number_of result ≡ first_fitting (used_lines (used_record n neighbours.now codes.now used)
         others (leb (2 ^ n) word) six) }
 {
-    used_number(n, neighbours, codes, used, word, others, false, false, six)
+    used_number(n, neighbours, codes, used, word, others, None, six)
 }

@@ -1,17 +1,11 @@
 // One look at all codes: whether one is 24 or more, and which vertices may be out of place, told by their codes alone. A
 // code is a byte, and eight are looked at at once.
 ghost use Rattle.std.specs.Prelude.{◌&&◌, ◌||◌, ◌≡◌, ℕ, ◌*◌, ◌+◌, ◌-◌, ◌<◌, ◌≤◌, ◌^◌, eqb, leb, get_or, length};
+ghost use Rattle.std.specs.Option.{IfSome, is_none};
 ghost use Rattle.buffers.specs.Refusals.{reaching};
 ghost use Rattle.words.specs.Bits.{bit, digit, is_odd, word_of};
 ghost use Rattle.operations_gates.specs.internal.Bytes.{Packed};
 ghost use Rattle.operations_gates.specs.internal.Suspects.{Marked};
-
-// What the look tells: whether a code is 24 or more, and, where none is, the vertices that may be out of place.
-#[derive(Clone, Copy)]
-pub struct Seen {
-    pub over: bool,
-    pub suspects: u64,
-}
 
 // A byte as a word.
 fn byte(code: u8) -> u64
@@ -26,9 +20,7 @@ fn last_codes(codes: &[u8], from: usize) -> u64
     ensures { Packed codes.now from 8 result }
 {
     let mut all = 0;
-    let mut i = codes.len();
-    while from < i {
-        i -= 1;
+    for i in (from..codes.len()).rev() {
         all = (all << 8) | byte(codes[i]);
     }
     all
@@ -89,26 +81,25 @@ fn turned(rows: u64) -> u64
 }
 
 // The look: first at the codes above the last whole eight, then eight by eight. The marks of eight codes lie eight places
-// apart, and those of the next eight between them. No branch looks at a code, since which codes are held cannot be
-// foreseen.
-pub fn look(codes: &[u8]) -> Seen
-    ensures over_value { result.over ≡ reaching 24 codes.now }
-    ensures marked { Marked codes.now result.suspects }
+// apart, and those of the next eight between them. No branch in the loop looks at a code, since which codes are held
+// cannot be foreseen. The vertices that may be out of place are the answer; none where a code is 24 or more.
+pub fn look(codes: &[u8]) -> Option<u64>
+    ensures over_value { is_none result ≡ reaching 24 codes.now }
+    ensures marked { IfSome result (λ word. Marked codes.now word) }
 {
-    let mut i = codes.len() / 8 * 8;
-    let last = last_codes(codes, i);
+    let eights = codes.len() / 8;
+    let last = last_codes(codes, 8 * eights);
     let mut high = high_bits(last);
     let mut rows = marks(last);
-    while 0 < i {
-        i -= 8;
-        let x = eight_codes(codes, i);
-        high = high | high_bits(x);
+    for e in (0..eights).rev() {
+        let x = eight_codes(codes, 8 * e);
+        high |= high_bits(x);
         rows = (rows << 1) | marks(x);
     }
-    Seen {
-        over: high & 0xE0E0_E0E0_E0E0_E0E0 != 0,
-        suspects: turned(rows),
+    if high & 0xE0E0_E0E0_E0E0_E0E0 != 0 {
+        return None;
     }
+    Some(turned(rows))
 }
 
 // 1 for a code that is odd, or 8 or more: only with such a code can a vertex be out of place.
@@ -126,9 +117,7 @@ fn suspects_from(codes: &[u8], from: usize) -> u64
         (λ t. is_odd (get_or codes.now (from + t) 0) || leb 8 (get_or codes.now (from + t) 0)) }
 {
     let mut all = 0;
-    let mut i = codes.len();
-    while from < i {
-        i -= 1;
+    for i in (from..codes.len()).rev() {
         all = 2 * all + suspicious(codes[i]);
     }
     all
@@ -151,11 +140,10 @@ pub fn suspects(codes: &[u8]) -> u64
     requires { (length codes.now ≤ 64) × ((q : ℕ) → get_or codes.now q 0 < 24) }
     ensures { Marked codes.now result }
 {
-    let mut i = codes.len() / 8 * 8;
-    let mut all = suspects_from(codes, i);
-    while 0 < i {
-        i -= 8;
-        let x = eight_codes(codes, i);
+    let eights = codes.len() / 8;
+    let mut all = suspects_from(codes, 8 * eights);
+    for e in (0..eights).rev() {
+        let x = eight_codes(codes, 8 * e);
         all = 256 * all + marked_bytes(x);
     }
     all

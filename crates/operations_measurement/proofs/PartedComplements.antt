@@ -1,21 +1,19 @@
--- A complementation at q without the edges at q: a loop in which each neighbour of q gets the others flipped and loses
+-- A complementation at q without the edges at q: each neighbour of q gets the others flipped and loses
 -- q.
 use mathlib.Core.Bool.{◌&&◌, Bool, cond, false, not, true, ◌||◌}
 use mathlib.Core.List.{List}
-use mathlib.Core.Path.{ap, ap₂, subst, sym, ◌∙◌, ◌≡◌}
-use Prim.Native.Nat.{◌<◌, ◌^◌, ℕ, ◌≤◌}
+use mathlib.Core.Path.{ap, ap₂, refl, sym, ◌∙◌, ◌≡◌}
+use Prim.Native.Nat.{◌<◌, ◌^◌, ℕ}
 use lib.Bits.{bit_or, bit_xor}
-use lib.Count.{count_trailing_zeros}
 use lib.Dec.{eqb}
 use lib.ListN.{get_or, length, set}
 use borrow.Author.Tests.{eqb-true}
-use Rattle.buffers.proofs.OverSets.{Over, next-named, over-end, over-start, over-step}
 use Rattle.record.proofs.Complement.{under}
 use Rattle.record.proofs.PivotWords.{closed_at}
 use Rattle.record.specs.Graph.{Graph, Simple, complement}
 use Rattle.record.specs.internal.NeighbourWords.{SameGraph}
 use Rattle.record.specs.NeighbourWords.{graph_in}
-use Rattle.words.proofs.BitLaws.{bit-flip, bit-xor, lt-of-bits}
+use Rattle.words.proofs.BitLaws.{bit-flip, bit-xor}
 use Rattle.words.proofs.Finite.{bits, ⊕-zero}
 use Rattle.words.proofs.Flags.{implies, same_bit-true}
 use Rattle.words.specs.Bits.{bit, same_bit, ◌⊕◌}
@@ -35,14 +33,6 @@ away-at : (L E t b d : Bool) → known L E t b d ≡ true → flipped L E t b d 
 away-at L E t b d h = under (known L E t b d) (flipped L E t b d) (away L E t b d) h
     (bits 5 (λ L E t b d. cond (known L E t b d) (flipped L E t b d) (away L E t b d)) away tt L E t b d)
 
--- the word of i, complemented and without q
-abbrev pub AwayAt : List ℕ → ℕ → ℕ → ℕ → Type 0
-AwayAt old q i v = (l : ℕ) → bit v l ≡ (complement (graph_in old) q i l && not (eqb l q))
-
--- the neighbours of q in `rest` are still to come
-abbrev pub Turning : List ℕ → ℕ → List ℕ → ℕ → Type 0
-Turning old q new rest = Over (AwayAt old q) (get_or old q 0) old new rest
-
 module _ (old : List ℕ) (q : ℕ) (S : Simple (length old) (graph_in old)) where
   abbrev θ : Graph
   θ = graph_in old
@@ -58,23 +48,17 @@ module _ (old : List ℕ) (q : ℕ) (S : Simple (length old) (graph_in old)) whe
       ap₂ (λ s t. not s && t) (ap (θ q) f ∙ S.loopless q) (same_bit-true (ap (θ i) f ∙ S.symmetric i q))))
       (implies (eqb l i) _ (λ d. same_bit-true (ap (θ q) (eqb-true l i d)))))
 
-  pub turning-start : Turning old q old (get_or old q 0)
-  turning-start = over-start (AwayAt old q) old (get_or old q 0) (lt-of-bits (length old) (get_or old q 0) (S.below q))
-      (λ i e l. sym (⊕-zero (θ i l)) ∙ without i false e l)
-
-  module _ (new : List ℕ) (rest : ℕ) (T : Turning old q new rest) where
-    pub turning-more : length old ≤ 64 → (rest ≡ 0 → ⊥) → (i : ℕ) → i ≡ count_trailing_zeros 64 rest → (s v rest' : ℕ)
-        → s ≡ 2 ^ q → v ≡ bit_xor (bit_or (get_or old q 0) s) (2 ^ i) → rest' ≡ bit_xor rest (2 ^ i)
-        → Turning old q (set new i (bit_xor (get_or new i 0) v)) rest'
-    turning-more short z i e s v rest' es ev f =
-        let named = next-named (AwayAt old q) (get_or old q 0) old new rest T short z i e in
-        over-step (AwayAt old q) (get_or old q 0) old new rest T short z i e (bit_xor (get_or new i 0) v) rest'
-        (λ l. ap₂ (λ a b. bit (bit_xor a b) l) (T.left i named) ev
-        ∙ bit-xor (get_or old i 0) (bit_xor (bit_or (get_or old q 0) s) (2 ^ i)) l
-        ∙ ap (λ b. θ i l ⊕ b) (bit-flip (bit_or (get_or old q 0) s) i l ∙ ap (λ b. b ⊕ eqb l i) (closed_at old S q s es l))
-        ∙ without i true (T.named i named) l) f
-
-    pub turning-end : rest ≡ 0 → q < length old → SameGraph (graph_in (set new q 0))
-        (parted_from (complement (graph_in old) q) q)
-    turning-end e hq = all-parted (complement θ q) q new (subst (λ m. q < m) (sym T.long) hq)
-        (over-end (AwayAt old q) (get_or old q 0) old new rest T e)
+  -- each neighbour of q got the others flipped and lost q
+  pub all-away : (new : List ℕ) (s : ℕ) → s ≡ 2 ^ q → ((i : ℕ) → get_or new i 0 ≡ cond (bit (get_or old q 0) i)
+      (bit_xor (get_or old i 0) (bit_xor (bit_or (get_or old q 0) s) (2 ^ i))) (get_or old i 0)) → q < length new
+      → SameGraph (graph_in (set new q 0)) (parted_from (complement (graph_in old) q) q)
+  all-away new s es h hq = all-parted (complement θ q) q new hq (λ i l. ap (λ w. bit w l) (h i) ∙ go i l (θ q i) refl)
+    where
+      go : (i l : ℕ) (b : Bool) → θ q i ≡ b
+          → bit (cond b (bit_xor (get_or old i 0) (bit_xor (bit_or (get_or old q 0) s) (2 ^ i))) (get_or old i 0)) l
+          ≡ (complement θ q i l && not (eqb l q))
+      go i l true d =
+          bit-xor (get_or old i 0) (bit_xor (bit_or (get_or old q 0) s) (2 ^ i)) l
+          ∙ ap (λ b. θ i l ⊕ b) (bit-flip (bit_or (get_or old q 0) s) i l ∙ ap (λ b. b ⊕ eqb l i) (closed_at old S q s es l))
+          ∙ without i true d l
+      go i l false d = sym (⊕-zero (θ i l)) ∙ without i false d l

@@ -1,5 +1,5 @@
 -- A measurement read off a record by the code: what its calls answer is whether it is determined, and the sign.
-use mathlib.Core.Bool.{◌&&◌, Bool, beq, cond, false, true}
+use mathlib.Core.Bool.{◌&&◌, Bool, cond, false, true}
 use mathlib.Core.List.{List}
 use mathlib.Core.Logic.{◌↔◌}
 use mathlib.Core.Path.{ap, ap₂, subst, sym, ◌∙◌, ◌≡◌}
@@ -15,7 +15,7 @@ use Rattle.operations.specs.internal.InPlace.{Unrefused, record_in}
 use Rattle.operations.specs.Measurement.{is_determined, outcome, pauli_letter, single}
 use Rattle.operations.specs.internal.Steps.{ReadOff}
 use Rattle.pauli.proofs.PhaseLaws.{minus-injective}
-use Rattle.pauli.specs.Pauli.{minus, x_bit, z_bit}
+use Rattle.pauli.specs.Pauli.{minus}
 use Rattle.pauli.specs.declared.Letter.{Letter}
 use Rattle.pauli.specs.declared.Letter.TheVariants.{X}
 use Rattle.record.proofs.AcceptedRecords.{accepted-record}
@@ -67,20 +67,17 @@ module _ (words codes : List ℕ) (U : Unrefused (record_in words codes)) (q : �
           (ap (equal_letters (image k X)) (sym h.0) ∙ equal-letters-refl (image k X))
 
   -- from what the code's calls answer
-  pub read-by-calls : {own asked : Letter} (m : Bool) {bz cz bx cx : Bool}
+  pub read-by-calls : {own asked : Letter} (m : Bool) {t : Bool}
       → own ≡ image (clifford_of (get_or codes q 0)) X → minus m ≡ image_phase (clifford_of (get_or codes q 0)) X
-      → asked ≡ pauli_letter pauli → bz ≡ z_bit own → cz ≡ z_bit asked → bx ≡ x_bit own → cx ≡ x_bit asked
-      → ReadOff (record_in words codes) pauli q
-      (eqb (get_or words q 0) 0 && (beq bz cz && beq bx cx)) m
+      → asked ≡ pauli_letter pauli → t ≡ equal_letters own asked
+      → ReadOff (record_in words codes) pauli q (eqb (get_or words q 0) 0 && t) m
   unfolding test
-  read-by-calls {own} {asked} m {bz} {cz} {bx} {cx} eo em ea hz hz' hx hx' =
+  read-by-calls {own} {asked} m {t} eo em ea h =
       subst (λ d. ReadOff (record_in words codes) pauli q d m) (sym found)
       (record { known = test-exactly; reading = λ b. go b test test-exactly })
     where
-      found : (eqb (get_or words q 0) 0 && (beq bz cz && beq bx cx)) ≡ test
-      found = ap (λ c. eqb (get_or words q 0) 0 && c)
-          (ap₂ ◌&&◌ (ap₂ beq (hz ∙ ap z_bit eo) (hz' ∙ ap z_bit ea))
-          (ap₂ beq (hx ∙ ap x_bit eo) (hx' ∙ ap x_bit ea)))
+      found : (eqb (get_or words q 0) 0 && t) ≡ test
+      found = ap (λ c. eqb (get_or words q 0) 0 && c) (h ∙ ap₂ equal_letters eo ea)
 
       go : (b d : Bool) → d ≡ is_determined n (rows_of n r) l q → outcome n (rows_of n r) l q b ≡ cond d m b
       go b true e = outcome-alone n r simple q hq l (pauli-acts pauli lo) (sym e) b

@@ -1,7 +1,7 @@
 -- The edges at a vertex removed: a loop in which each neighbour loses the vertex, and then its own word is 0.
-use mathlib.Core.Bool.{◌&&◌, Bool, and-false, and-true, false, not, true}
+use mathlib.Core.Bool.{◌&&◌, Bool, and-false, and-true, cond, false, not, true}
 use mathlib.Core.List.{List}
-use mathlib.Core.Path.{ap, ap₂, subst, sym, ◌∙◌, ◌≡◌}
+use mathlib.Core.Path.{ap, ap₂, refl, subst, sym, ◌∙◌, ◌≡◌}
 use Prim.Native.Nat.{◌<◌, ◌^◌, ℕ, ◌≤◌}
 use native.Mathlib.Decide.{ℕ_discrete}
 use lib.Bits.{bit_xor}
@@ -70,3 +70,14 @@ module _ (old : List ℕ) (q : ℕ) (S : Simple (length old) (graph_in old)) whe
     pub leave-end : rest ≡ 0 → q < length old → SameGraph (graph_in (set new q 0)) (parted_from (graph_in old) q)
     leave-end e hq = all-parted θ q new (subst (λ m. q < m) (sym L.long) hq)
         (over-end (LeftAt old q) (get_or old q 0) old new rest L e)
+
+  -- or where one call flipped q in the word of each neighbour
+  pub all-left : (new : List ℕ) (own : ℕ) → own ≡ 2 ^ q → ((i : ℕ) → get_or new i 0
+      ≡ cond (bit (get_or old q 0) i) (bit_xor (get_or old i 0) own) (get_or old i 0)) → q < length new
+      → SameGraph (graph_in (set new q 0)) (parted_from (graph_in old) q)
+  all-left new own e h hq = all-parted θ q new hq (λ k l. ap (λ w. bit w l) (h k) ∙ go k l (θ q k) refl)
+    where
+      go : (k l : ℕ) (b : Bool) → θ q k ≡ b
+          → bit (cond b (bit_xor (get_or old k 0) own) (get_or old k 0)) l ≡ (θ k l && not (eqb l q))
+      go k l true d = ap (λ u. bit (bit_xor (get_or old k 0) u) l) e ∙ bit-flip (get_or old k 0) q l ∙ without k true d l
+      go k l false d = sym (⊕-zero (θ k l)) ∙ without k false d l

@@ -1,7 +1,7 @@
 -- Letters compared by their bits, and where codes send them.
-use mathlib.Core.Bool.{◌&&◌, Bool, beq, false, true, true≢false}
+use mathlib.Core.Bool.{Bool, false, true, true≢false}
 use mathlib.Core.Logic.{◌↔◌}
-use mathlib.Core.Path.{ap, ap₂, refl, sym, ◌∙◌, ◌≡◌}
+use mathlib.Core.Path.{ap, refl, sym, ◌∙◌, ◌≡◌}
 use Rattle.clifford.specs.Clifford.{
   Class,
   Clifford,
@@ -18,35 +18,32 @@ use Rattle.clifford.specs.Clifford.{
   image_z,
   then,
 }
-use Rattle.pauli.proofs.PauliLaws.{letter-bits}
-use Rattle.pauli.specs.Pauli.{letter, letter_product, x_bit, z_bit}
+use Rattle.pauli.specs.Pauli.{letter_product}
+use Rattle.pauli.specs.contracts.Letter.{the_type}
+use denote.Enum.Bare.{same_true, sameb}
+use borrow.Author.Rules.{rules}
 use Rattle.pauli.specs.declared.Letter.{Letter}
 use Rattle.pauli.specs.declared.Letter.TheVariants.{I, X, Y, Z}
-use Rattle.words.proofs.Flags.{beq-refl, beq-true, both_true}
 
--- ---- equal letters, by their bits
+-- ---- equal letters, by the derived test
 abbrev pub equal_letters : Letter → Letter → Bool
-equal_letters a b = beq (z_bit a) (z_bit b) && beq (x_bit a) (x_bit b)
+equal_letters a b = sameb the_type a b
 
 pub equal-letters : (a b : Letter) → equal_letters a b ≡ true → a ≡ b
-equal-letters a b e =
-    let h = both_true (beq (z_bit a) (z_bit b)) (beq (x_bit a) (x_bit b)) e in
-    sym (letter-bits a) ∙ ap₂ letter (beq-true (z_bit a) (z_bit b) h.0) (beq-true (x_bit a) (x_bit b) h.1)
-    ∙ letter-bits b
+equal-letters a b e = same_true the_type (search rules) a b e
 
 pub equal-letters-refl : (a : Letter) → equal_letters a a ≡ true
-equal-letters-refl a = ap₂ ◌&&◌ (beq-refl (z_bit a)) (beq-refl (x_bit a))
+equal-letters-refl I = refl
+equal-letters-refl X = refl
+equal-letters-refl Y = refl
+equal-letters-refl Z = refl
 
 -- from what the calls answer
-pub sent-by-calls : {l a b : Letter} {az bz ax bx : Bool} → a ≡ l → az ≡ z_bit a → bz ≡ z_bit b
-    → ax ≡ x_bit a → bx ≡ x_bit b → ((beq az bz && beq ax bx) ≡ true) ↔ (l ≡ b)
-sent-by-calls {l = l} {b = b} {az = az} {bz = bz} {ax = ax} {bx = bx} ea hz hz' hx hx' = (
-  (λ t. equal-letters l b (sym same ∙ t)),
-  (λ t. same ∙ ap (equal_letters l) (sym t) ∙ equal-letters-refl l),
+pub sent-by-calls : {l a b : Letter} {t : Bool} → a ≡ l → t ≡ equal_letters a b → (t ≡ true) ↔ (l ≡ b)
+sent-by-calls {l} {a} {b} {t} ea h = (
+  (λ e. sym ea ∙ equal-letters a b (sym h ∙ e)),
+  (λ e. h ∙ ap (equal_letters a) (sym (ea ∙ e)) ∙ equal-letters-refl a),
 )
-  where
-    same : (beq az bz && beq ax bx) ≡ equal_letters l b
-    same = ap₂ ◌&&◌ (ap₂ beq (hz ∙ ap z_bit ea) hz') (ap₂ beq (hx ∙ ap x_bit ea) hx')
 
 -- ---- images
 -- the letter that is neither the image of X nor that of Z

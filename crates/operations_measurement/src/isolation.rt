@@ -11,10 +11,11 @@ ghost use Rattle.operations.specs.internal.InPlace.{Rewritten, Unrefused, record
 ghost use Rattle.words.specs.Bits.{bit};
 
 use buffers::sign_digit;
-use clifford_impl::numbers::{Z, before_each, compose};
+use clifford_impl::numbers::{Z, compose};
+use operations_rewriting::complements::turn_each;
 use words::{single, smallest, without_smallest};
 
-// The edges at q removed: each neighbour loses q, and q all of them.
+// The edges at q removed: each neighbour loses q, and q all of them. Not by turn_each: no code is changed.
 fn remove_edges(neighbours: &mut [u64], q: usize)
     requires neighbours_len_bound { (length neighbours.old ≤ 64) × (q < length neighbours.old) }
     requires simple { Simple (length neighbours.old) (graph_in neighbours.old) }
@@ -41,15 +42,8 @@ fn remove_turning(neighbours: &mut [u64], codes: &mut [u8], q: usize)
         (then (clifford_of 2) (codes_of codes.old k)) (codes_of codes.old k))) }
 {
     let away = single(q);
-    let twos = before_each(Z);
-    let mut rest = neighbours[q];
-    while rest != 0 {
-        let i = smallest(rest);
-        let code = codes[i];
-        codes[i] = twos[code as usize];
-        neighbours[i] = neighbours[i] ^ away;
-        rest = without_smallest(rest);
-    }
+    let near = neighbours[q];
+    turn_each(neighbours, codes, near, Z, |_i| away);
     neighbours[q] = 0;
 }
 

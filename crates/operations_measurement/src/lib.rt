@@ -24,7 +24,7 @@ use crate::undetermined::measure_open;
 use clifford_impl::codes::Code;
 use operations::Outcome;
 use operations_gates::settling::normalise;
-use pauli::{Letter, x_bit, z_bit};
+use pauli::Letter;
 
 // The letter that a Pauli's number names: 1 X, 2 Y, 3 Z.
 pub fn letter_named(pauli: u8) -> Letter
@@ -53,11 +53,8 @@ pub fn read_off(neighbours: &[u64], codes: &[u8], pauli: u8, q: usize) -> Readin
         result.determined result.minus }
 {
     let own = Code { index: codes[q] }.image(Letter::X);
-    let letter = own.letter;
-    let asked = letter_named(pauli);
-    let same = (z_bit(letter) == z_bit(asked)) & (x_bit(letter) == x_bit(asked));
     Reading {
-        determined: (neighbours[q] == 0) & same,
+        determined: (neighbours[q] == 0) & (own.letter == letter_named(pauli)),
         minus: own.minus,
     }
 }

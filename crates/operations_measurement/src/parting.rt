@@ -13,9 +13,10 @@ ghost use Rattle.record.specs.Lent.{code_numbers, held_record};
 ghost use Rattle.record.specs.Records.{complement_record};
 ghost use Rattle.words.specs.Bits.{bit};
 
-use clifford_impl::numbers::{H_NXZ, S_DAG, SQRT_X, before_each, compose};
+use clifford_impl::numbers::{H_NXZ, S_DAG, SQRT_X, compose};
+use operations_rewriting::complements::turn_each;
 use operations_rewriting::pivots::join_turning;
-use words::{flip, single, smallest, without_smallest};
+use words::{flip, single};
 
 // Pivots on q and its neighbour k without the edges at q: those between the neighbours of q and k with its neighbours are
 // flipped. The codes are those of the pivot; the answer is the neighbours that q would have.
@@ -51,16 +52,9 @@ fn complement_away(neighbours: &mut [u64], codes: &mut [u8], q: usize)
         (bit (get_or neighbours.old q 0) j)
         (then (clifford_of 6) (codes_of codes.old j)) (codes_of codes.old j))) }
 {
-    let mut rest = neighbours[q];
-    let around = rest | single(q);
-    let sixes = before_each(S_DAG);
-    while rest != 0 {
-        let i = smallest(rest);
-        let code = codes[i];
-        codes[i] = sixes[code as usize];
-        neighbours[i] = neighbours[i] ^ flip(around, i);
-        rest = without_smallest(rest);
-    }
+    let near = neighbours[q];
+    let around = near | single(q);
+    turn_each(neighbours, codes, near, S_DAG, |i| flip(around, i));
     neighbours[q] = 0;
 }
 

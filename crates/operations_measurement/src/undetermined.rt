@@ -16,7 +16,7 @@ use crate::isolation::{isolate, with_hadamard};
 use crate::parting::{complement_parted, pivot_parted};
 use clifford_impl::codes::Code;
 use operations_rewriting::complements::put_before;
-use pauli::{Letter, x_bit, z_bit};
+use pauli::Letter;
 use words::{largest, where_true};
 
 // Whether the code sends a letter to plus or minus another.
@@ -24,9 +24,7 @@ fn sends(code: u8, from: Letter, to: Letter) -> bool
     requires { code < 24 }
     ensures { (result ≡ true) ↔ (image (clifford_of code) from ≡ to) }
 {
-    let sent = Code { index: code }.image(from);
-    let letter = sent.letter;
-    (z_bit(letter) == z_bit(to)) & (x_bit(letter) == x_bit(to))
+    Code { index: code }.image(from).letter == to
 }
 
 // The codes after Z is measured at q, which has no edges left and had those to `near`: there a Hadamard comes before the

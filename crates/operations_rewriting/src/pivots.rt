@@ -11,8 +11,9 @@ ghost use Rattle.operations.specs.internal.InPlace.{Rewritten, Unrefused, record
 ghost use Rattle.operations.specs.Steps.{pivot_record};
 ghost use Rattle.words.specs.Bits.{bit, ◌⊕◌};
 
-use clifford_impl::numbers::{H_NXZ, Z, before_each, compose};
-use words::{single, smallest, without_smallest};
+use crate::complements::turn_each;
+use clifford_impl::numbers::{H_NXZ, Z, compose};
+use words::single;
 
 // Each of these vertices gets the word flipped in its own, and 2 before its code.
 fn turn_rows(neighbours: &mut [u64], codes: &mut [u8], rows: u64, word: u64)
@@ -24,15 +25,7 @@ fn turn_rows(neighbours: &mut [u64], codes: &mut [u8], rows: u64, word: u64)
     ensures codes_after { codes.new ≡ tabulate (length codes.old) (λ q. code_of (cond (bit «rows» q)
         (then (clifford_of 2) (codes_of codes.old q)) (codes_of codes.old q))) }
 {
-    let twos = before_each(Z);
-    let mut rest = rows;
-    while rest != 0 {
-        let i = smallest(rest);
-        let code = codes[i];
-        codes[i] = twos[code as usize];
-        neighbours[i] = neighbours[i] ^ word;
-        rest = without_smallest(rest);
-    }
+    turn_each(neighbours, codes, rows, Z, |_i| word);
 }
 
 // The edges between the two sets flipped, and 2 before the codes of their vertices. A vertex of the first set alone gets

@@ -7,7 +7,9 @@ use Prim.Native.Nat.{◌%◌, ◌+◌, ◌/◌, ◌<◌, ℕ, ◌≤◌}
 use native.Mathlib.Nat.{le_trans, lt_of_lt_of_le, not-suc-le-zero}
 use native.Mathlib.Omega.{arith}
 use lib.Bits.{bit_xor}
-use lib.ListN.{get_or, length, replicate}
+use lib.ListN.{get_or, length, replicate, take}
+use lib.Seq.{get_or-take}
+use Rattle.std.proofs.lemmas.List.{length-take}
 use Rattle.buffers.proofs.Mapping.{zeros, zeros-at}
 use Rattle.buffers.proofs.Tabulate.{tabulate-at}
 use Rattle.buffers.specs.Buffers.{tabulate}
@@ -44,6 +46,11 @@ module _ {n g : ℕ} {words : List ℕ} (few : n ≤ 6) (W : WordsOf n g words) 
   around-small small within e =
       subst (λ h. h < 32768) (sym (around-number small within e))
       (lt_of_lt_of_le (complement-lt n g a) (graphs-fit n few))
+
+-- a word among the first n
+pub taken-word : (n : ℕ) (words : List ℕ) (a : ℕ) → a < length (take n words) →
+    get_or (take n words) a 0 ≡ get_or words a 0
+taken-word n words a l = get_or-take n words a 0 (omega (arith, l, length-take n words))
 
 pub around-none : (n g : ℕ) (marks list : List ℕ) (tail : ℕ) → Queue marks list tail
     → Visited (Around n g 0) marks list tail marks list tail

@@ -41,11 +41,8 @@ fn visit_around(
 {
     let words = graph_words(n, g);
     let mut end = tail;
-    let mut a = 0;
-    while a < n {
-        let around = words[a] as usize;
-        end = visit(g ^ within[around], marks, list, end);
-        a += 1;
+    for &around in &words[..n] {
+        end = visit(g ^ within[around as usize], marks, list, end);
     }
     end
 }
@@ -58,6 +55,7 @@ pub fn spread(n: usize, g: u64, marks: &mut [u64; 512], list: &mut [u16])
 {
     let within = all_pairs_within(n);
     let mut tail = visit(g, marks, list, 0);
+    // no `for`: the list grows while it is followed
     let mut head = 0;
     while head < tail {
         let next = list[head] as u64;

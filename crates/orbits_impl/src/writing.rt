@@ -14,8 +14,9 @@ fn write_word(word: u64, base: usize, list: &mut [u16], at: usize) -> usize
     ensures { Printed (map (λ v. base + v) (selected 64 (bit word))) at list.old list.new
         result }
 {
-    let mut rest = word;
     let mut end = at;
+    // no `for`: over the bits of a word, from the smallest
+    let mut rest = word;
     while rest != 0 {
         let q = smallest(rest);
         list[end] = (base + q) as u16;
@@ -32,10 +33,8 @@ pub fn write_marked(marks: &[u64; 512], list: &mut [u16]) -> usize
         × (result ≡ length (selected 32768 (marked marks.now))) }
 {
     let mut end = 0;
-    let mut w = 0;
-    while w < 512 {
-        end = write_word(marks[w], w * 64, list, end);
-        w += 1;
+    for (w, &word) in marks.iter().enumerate() {
+        end = write_word(word, w * 64, list, end);
     }
     end
 }

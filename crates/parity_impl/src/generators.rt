@@ -1,5 +1,5 @@
-// The generators of a record, changed by the measurement of a row: the first that does not commute with it goes into the
-// others that do not, and the row takes its place.
+// The generators of a record, changed by the measurement of a row: the first that does not commute with it goes into
+// the others that do not, and the row takes its place.
 ghost use Rattle.std.specs.Prelude.{false, ◌≡◌, ℕ, ◌<◌, ◌^◌, get_or, length};
 ghost use Rattle.operations.specs.internal.InPlace.{Unrefused, record_in};
 ghost use Rattle.parity.specs.RowMeasurement.{row_value};
@@ -17,18 +17,17 @@ use pauli::{Generator, clashes, letters_minus};
 use record_impl::expansion::expand_into;
 use record_reduction::reduce_list;
 
-// The first generator that does not commute with the row; n where all do.
+// The first generator that does not commute with the row; n where all do. A number and no `Option`: its caller knows
+// that there is one.
 fn first_against(zs: &[u64], xs: &[u64], z: u64, x: u64) -> usize
     requires { length xs.now ≡ length zs.now }
     ensures { result ≡ first (length zs.now) (λ i. anticommute 64
         (row i⁰ (get_or zs.now i 0) (get_or xs.now i 0)) (row i⁰ z x)) }
 {
-    let mut j = 0;
-    while j < zs.len() {
+    for j in 0..zs.len() {
         if clashes(zs[j], xs[j], z, x) {
             return j;
         }
-        j += 1;
     }
     zs.len()
 }
@@ -64,8 +63,7 @@ fn change(signs: &mut [u8], zs: &mut [u64], xs: &mut [u64], z: u64, x: u64, minu
         z: zs[g],
         x: xs[g],
     };
-    let mut j = 0;
-    while j < signs.len() {
+    for j in 0..signs.len() {
         let own = Generator {
             minus: signs[j] % 2 == 1,
             z: zs[j],
@@ -75,7 +73,6 @@ fn change(signs: &mut [u8], zs: &mut [u64], xs: &mut [u64], z: u64, x: u64, minu
         signs[j] = sign_digit(next.minus);
         zs[j] = next.z;
         xs[j] = next.x;
-        j += 1;
     }
     signs[g] = sign_digit(minus);
     zs[g] = z;

@@ -1,5 +1,5 @@
-// The measurement of a Pauli row on a record in its buffers: where the row is not determined the record is expanded into
-// its generators, these are changed, and the list is reduced.
+// The measurement of a Pauli row on a record in its buffers: where the row is not determined the record is expanded
+// into its generators, these are changed, and the list is reduced.
 #![tactic(auto)]
 
 mod generators;
@@ -27,11 +27,14 @@ pub fn measure_row_record(
     ensures { RowInPlace neighbours.old codes.old z x bit result
         neighbours.new codes.new }
 {
-    let value = row_value(neighbours.len(), neighbours, codes, z, x);
-    if value == 2 {
-        measure_open(neighbours, codes, z, x, bit);
-        return Outcome::Chosen(bit);
+    match row_value(neighbours.len(), neighbours, codes, z, x) {
+        Some(minus) => {
+            normalise(neighbours, codes);
+            Outcome::Determined(minus)
+        }
+        None => {
+            measure_open(neighbours, codes, z, x, bit);
+            Outcome::Chosen(bit)
+        }
     }
-    normalise(neighbours, codes);
-    Outcome::Determined(value == 1)
 }

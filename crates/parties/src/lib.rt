@@ -1,3 +1,3 @@
-// Two parties on one record: see specs/ for a party's vertices alone, the lines and the stores of a party, and proofs/ for
-// the laws.
+// Two parties on one record: see specs/ for a party's vertices alone, the lines and the stores of a party, and proofs/
+// for the laws.
 #![tactic(auto)]

@@ -51,7 +51,8 @@ module _ (word g : ℕ) (u : UsedRecord) (six other : Bool) where
 
   module _ (n64 : u.held.n ≡ 64) {k : ℕ} (e : k ≡ first_fitting (used_lines u false false (six || ltb 1 g))) where
     number : k ≡ first_fitting held
-    number = e ∙ six-joined u six (ltb 1 g) ∙ sym (without-test 2 (with_test 6 (ltb 1 g) (used_lines u false false six)))
+    number = e ∙ six-joined u six (ltb 1 g)
+        ∙ sym (without-test 2 (with_test 6 (ltb 1 g) (used_lines u false false six)))
         ∙ ap (λ b. first_fitting (with_test 2 (not b) (with_test 6 (ltb 1 g) (used_lines u false false six))))
         (sym (eq-eqb u.held.n 64 n64))
 

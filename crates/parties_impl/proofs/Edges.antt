@@ -48,7 +48,8 @@ abbrev pub crossing_at : ℕ → List ℕ → ℕ → Bool
 crossing_at word nb j = some 64 (λ k. bit (get_or nb j 0) k && not (same_bit (bit word j) (bit word k)))
 
 pub crossing-here : (word : ℕ) (nb : List ℕ) (j : ℕ) {o v : ℕ} {here : Bool} → o ≡ word_of 64 (λ q. not (bit word q))
-    → v ≡ cond (bit word j) o word → here ≡ some 64 (λ k. bit (get_or nb j 0) k && bit v k) → here ≡ crossing_at word nb j
+    → v ≡ cond (bit word j) o word → here ≡ some 64 (λ k. bit (get_or nb j 0) k && bit v k)
+    → here ≡ crossing_at word nb j
 crossing-here word nb j {o} {v} eo ev eh = eh ∙ some-ext 64 _ _ (λ k l. ap (λ b. bit (get_or nb j 0) k && b)
     (ap (λ w. bit w k) ev ∙ other-side (bit word j) k l))
   where

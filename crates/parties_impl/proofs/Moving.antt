@@ -26,7 +26,8 @@ module _ (i own : ℕ) (nb cs : List ℕ) where
         heads = heads';
         neighbours = take (64 * i) hn ++ (words ++ drop (64 * i + 64 - 64 * i) (drop (64 * i) hn));
         codes = take (64 * i) hc ++ (bytes ++ drop (64 * i + 64 - 64 * i) (drop (64 * i) hc));
-      }) (with_place i (masked (bit own) (of64 nb cs used)) name (record { heads = heads; neighbours = hn; codes = hc }))
+      }) (with_place i (masked (bit own) (of64 nb cs used)) name
+      (record { heads = heads; neighbours = hn; codes = hc }))
   put-at used name w heads hn hc heads' words bytes ew eh en ec = λ j. record {
     heads = (eh ∙ ap (λ v. headed i 64 name v heads) ew) j;
     neighbours = placed i 64 _ words hn (tabulate-length 64 _) en j;

@@ -108,7 +108,8 @@ module _ (s : Word) (g : ℕ) (st : Store) where
             (ap (λ b. b || false) (own-long g st l (eight-long st fit))))
           where
             number : Bool → ℕ
-            number b = first_fitting (with_test 7 (named_twice 4 own.heads) (with_test 4 b (record_tests (of_held 4 own))))
+            number b = first_fitting (with_test 7 (named_twice 4 own.heads)
+                (with_test 4 b (record_tests (of_held 4 own))))
 
 -- ---- the steps of the check of four places
 module _ (s : Word) (own : Store) (number : ℕ) (e : number ≡ first_fitting (store_lines 4 own false)) where

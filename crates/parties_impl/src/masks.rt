@@ -16,14 +16,7 @@ pub fn own_word(word: u64, party: u8) -> u64
 }
 
 // a where the word has bit q, else b.
-fn pick_word(word: u64, q: usize, a: u64, b: u64) -> u64
-    requires { q < 64 }
-    ensures { result ≡ cond (bit word q) a b }
-{
-    if has(word, q) { a } else { b }
-}
-
-fn pick_byte(word: u64, q: usize, a: u8, b: u8) -> u8
+fn pick<T: Copy>(word: u64, q: usize, a: T, b: T) -> T
     requires { q < 64 }
     ensures { result ≡ cond (bit word q) a b }
 {
@@ -38,11 +31,9 @@ pub fn mask(own: u64, neighbours: &[u64], codes: &[u8], words: &mut [u64], bytes
         codes.now 0)).held.neighbours) × (bytes.new ≡ (masked (bit own) (used_record 64
         neighbours.now codes.now 0)).held.codes) }
 {
-    let mut q = 0;
-    while q < 64 {
-        words[q] = pick_word(own, q, neighbours[q], 0);
-        bytes[q] = pick_byte(own, q, codes[q], 8);
-        q += 1;
+    for q in 0..64 {
+        words[q] = pick(own, q, neighbours[q], 0);
+        bytes[q] = pick(own, q, codes[q], 8);
     }
 }
 
@@ -55,11 +46,9 @@ pub fn merge(own: u64, words: &[u64], bytes: &[u8], neighbours: &mut [u64], code
         (codes.new ≡ (merged (bit own) (used_record 64 words.now bytes.now 0)
         (used_record 64 neighbours.old codes.old 0)).held.codes) }
 {
-    let mut q = 0;
-    while q < 64 {
-        neighbours[q] = pick_word(own, q, words[q], neighbours[q]);
-        codes[q] = pick_byte(own, q, bytes[q], codes[q]);
-        q += 1;
+    for q in 0..64 {
+        neighbours[q] = pick(own, q, words[q], neighbours[q]);
+        codes[q] = pick(own, q, bytes[q], codes[q]);
     }
 }
 
@@ -91,10 +80,8 @@ pub fn crosses(word: u64, neighbours: &[u64]) -> bool
 {
     let other = others(word);
     let mut found = false;
-    let mut j = 0;
-    while j < 64 {
-        found = found | meet(neighbours[j], pick_word(word, j, other, word));
-        j += 1;
+    for j in 0..64 {
+        found |= meet(neighbours[j], pick(word, j, other, word));
     }
     found
 }
@@ -106,10 +93,8 @@ pub fn reaches_out(own: u64, neighbours: &[u64]) -> bool
 {
     let outside = others(own);
     let mut found = false;
-    let mut j = 0;
-    while j < 64 {
-        found = found | meet(neighbours[j], outside);
-        j += 1;
+    for &row in neighbours {
+        found |= meet(row, outside);
     }
     found
 }

@@ -1,5 +1,6 @@
 // One party's places in a store of eight: found by name, written and read.
-ghost use Rattle.std.specs.Prelude.{◌≡◌, ◌<◌, ◌≤◌, length};
+ghost use Rattle.std.specs.Option.{IfSome};
+ghost use Rattle.std.specs.Prelude.{◌≡◌, ◌<◌, ◌≤◌, length, unwrap_or};
 ghost use Rattle.parties.specs.PartyStores.{own_heads};
 ghost use Rattle.parties.specs.Masks.{masked, merged};
 ghost use Rattle.record.specs.Lent.{LentRecord, lent_record};
@@ -12,19 +13,21 @@ use crate::masks::{mask, mask_used, merge};
 use store_impl::copies::put_head;
 use store_impl::places::{find, place_for};
 
-// The place, of the party's four, that holds a state under the name; 4 where none does.
-pub fn own_find(party: u8, heads: &[u64], name: u64) -> usize
+// The place, of the party's four, that holds a state under the name; `None` where none does.
+pub fn own_find(party: u8, heads: &[u64], name: u64) -> Option<usize>
     requires { (party ≤ 1) × (length heads.now ≡ 24) }
-    ensures { result ≡ place_of 4 (own_heads party heads.now) name }
+    ensures place { unwrap_or result 4 ≡ place_of 4 (own_heads party heads.now) name }
+    ensures within { IfSome result (λ i. i < 4) }
 {
     let at = 12 * (party as usize); // the party's own names
     find(4, &heads[at..at + 12], name)
 }
 
-// The place, of the party's four, that a save takes; 4 where all hold other names.
-pub fn own_place_for(party: u8, heads: &[u64], name: u64) -> usize
+// The place, of the party's four, that a save takes; `None` where all hold other names.
+pub fn own_place_for(party: u8, heads: &[u64], name: u64) -> Option<usize>
     requires { (party ≤ 1) × (length heads.now ≡ 24) }
-    ensures { result ≡ save_place 4 (own_heads party heads.now) name }
+    ensures place { unwrap_or result 4 ≡ save_place 4 (own_heads party heads.now) name }
+    ensures within { IfSome result (λ i. i < 4) }
 {
     let at = 12 * (party as usize);
     place_for(4, &heads[at..at + 12], name)
@@ -46,11 +49,11 @@ pub fn put_masked(
     requires heads_len { (length heads.old ≡ 24) × (length held_neighbours.old ≡ 512)
         × (length held_codes.old ≡ 512) }
     ensures { ◌≡◌ {A = Store} (record {
-      heads = heads.exit.now;
+      heads = heads.new;
       neighbours = held_neighbours.new;
       codes = held_codes.new;
     }) (with_place i (masked (bit own) (used_record 64 neighbours.now codes.now used)) name (record {
-      heads = heads.entry.now;
+      heads = heads.old;
       neighbours = held_neighbours.old;
       codes = held_codes.old;
     })) }

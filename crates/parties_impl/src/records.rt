@@ -1,4 +1,5 @@
 // A party's part of a shared record: the lines of its calls before 8, its vertices taken out and put back.
+ghost use Rattle.buffers.specs.internal.Numbers.{number_of};
 ghost use Rattle.std.specs.Prelude.{cond, ◌≡◌, length};
 ghost use Rattle.buffers.specs.Refusals.{first_fitting};
 ghost use Rattle.parties.specs.PartyLines.{outsider};
@@ -8,6 +9,7 @@ ghost use Rattle.parties_impl.specs.internal.BeforeEight.{PutBack, before_eight}
 ghost use Rattle.operations.specs.Used.{used_record};
 
 use crate::masks::{crosses, mask, mask_used, merge, merge_used, own_word};
+use buffers::refusals::Refusal;
 use operations_checks::used_refusal;
 use words::bit_at;
 
@@ -18,7 +20,7 @@ pub fn outside(n: u64, word: u64, party: u8, qubit: u64) -> bool
     (qubit < n) & (bit_at(word, qubit) != (party == 1))
 }
 
-// The number of the first line before 8 that holds; `six`: line 6 holds of a further argument; `other`: the call names
+// The first line before 8 that holds; `six`: line 6 holds of a further argument; `other`: the call names
 // a qubit of the other party.
 pub fn party_refusal(
     n: u64,
@@ -29,21 +31,18 @@ pub fn party_refusal(
     used: u64,
     six: bool,
     other: bool,
-) -> u8
-    ensures { result ≡ first_fitting (before_eight word party (used_record n neighbours.now
+) -> Result<(), Refusal>
+    ensures { number_of result ≡ first_fitting (before_eight word party (used_record n neighbours.now
         codes.now used) six other) }
 {
     if n != 64 {
-        return 2;
+        return Err(Refusal::Count);
     }
-    let early = used_refusal(n, neighbours, codes, used, 0, false, six | (1 < party));
-    if early != 0 {
-        return early;
-    }
+    used_refusal(n, neighbours, codes, used, 0, false, six | (1 < party))?;
     if crosses(word, neighbours) | other {
-        19
+        Err(Refusal::OtherGroup)
     } else {
-        0
+        Ok(())
     }
 }
 

@@ -90,7 +90,7 @@ x_bit Z = false
 abbrev pub letter_product : Letter → Letter → Letter
 letter_product a b = letter (z_bit a ⊕ z_bit b) (x_bit a ⊕ x_bit b)
 
--- "XY = i_z, YZ = i_x, ZX = i_y; reversed order gives -i"
+-- "XY = iZ, YZ = iX, ZX = iY; reversed order gives -i"
 abbrev pub letter_phase : Letter → Letter → Phase
 letter_phase I b = i⁰
 letter_phase X I = i⁰

@@ -9,7 +9,7 @@ ghost use Rattle.pauli.specs.internal.Rows.{pauli_of};
 use words::{count, odd};
 
 // The letter at a place: of the pair (z, x), 00 is I, 01 is X, 10 is Z, 11 is Y.
-#[derive(Clone, Copy)]
+#[derive(Clone, Copy, PartialEq, Eq)]
 pub enum Letter {
     I,
     X,
@@ -20,33 +20,24 @@ pub enum Letter {
 pub fn letter_of(z: bool, x: bool) -> Letter
     ensures { result ≡ letter z x }
 {
-    if z {
-        if x { Letter::Y } else { Letter::Z }
-    } else {
-        if x { Letter::X } else { Letter::I }
+    match (z, x) {
+        (false, false) => Letter::I,
+        (false, true) => Letter::X,
+        (true, false) => Letter::Z,
+        (true, true) => Letter::Y,
     }
 }
 
 pub fn z_bit(l: Letter) -> bool
     ensures { result ≡ z_bit l }
 {
-    match l {
-        Letter::I => false,
-        Letter::X => false,
-        Letter::Y => true,
-        Letter::Z => true,
-    }
+    matches!(l, Letter::Y | Letter::Z)
 }
 
 pub fn x_bit(l: Letter) -> bool
     ensures { result ≡ x_bit l }
 {
-    match l {
-        Letter::I => false,
-        Letter::X => true,
-        Letter::Y => true,
-        Letter::Z => false,
-    }
+    matches!(l, Letter::X | Letter::Y)
 }
 
 // Whether two generators fail to commute: the places where both act and differ are odd in number.

@@ -24,7 +24,6 @@ use Rattle.pauli.specs.Pauli.{
   x_bit,
   z_bit,
 }
-use Rattle.pauli.specs.declared.Letter.TheVariants.{X}
 use Rattle.stabilizer.proofs.Carried.{same_rows}
 use Rattle.stabilizer.proofs.RowOperations.{shear-same}
 use Rattle.stabilizer.specs.Elimination.{shear}

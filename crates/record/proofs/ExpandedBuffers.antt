@@ -2,10 +2,10 @@
 use mathlib.Core.Bool.{Bool}
 use mathlib.Core.List.{List}
 use mathlib.Core.Path.{◌∙◌, ◌≡◌}
-use Prim.Native.Nat.{◌+◌, ◌<◌, zero-le, ℕ, ◌≤◌}
+use Prim.Native.Nat.{◌+◌, ◌<◌, ℕ, ◌≤◌}
 use native.Mathlib.Omega.{arith}
-use lib.ListN.{length, set}
-use Rattle.buffers.proofs.Filling.{Filled, fill_end, fill_start, fill_step}
+use lib.ListN.{set}
+use Rattle.buffers.proofs.Filling.{Filled, fill_end, fill_step}
 use Rattle.pauli.specs.Pauli.{Pauli, sign_bit, signed_row}
 use Rattle.stabilizer.specs.Groups.{Within}
 use Rattle.stabilizer.specs.Lists.{list_of}
@@ -18,17 +18,6 @@ pub record BuffersMade (n : ℕ) (R : ℕ → Pauli) (signs z x : List ℕ) (j :
   pub signs-made : Filled n (λ k. digit (sign_bit (R k).phase)) signs j
   pub z-made : Filled n (λ k. word_of n (R k).z) z j
   pub x-made : Filled n (λ k. word_of n (R k).x) x j
-
-pub none_made : (n : ℕ) (R : ℕ → Pauli) (signs z x : List ℕ) → length signs ≡ n → length z ≡ n → length x ≡ n
-    →
-    BuffersMade n R signs z x 0
-none_made n R signs z x ls lz lx =
-    record {
-      upto = zero-le;
-      signs-made = fill_start n _ signs ls;
-      z-made = fill_start n _ z lz;
-      x-made = fill_start n _ x lx;
-    }
 
 -- generator j written
 pub one-made : (n : ℕ) (R : ℕ → Pauli) (signs z x : List ℕ) (j : ℕ) → BuffersMade n R signs z x j → j < n →

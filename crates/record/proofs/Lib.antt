@@ -2,7 +2,6 @@ pub mod AcceptedRecords
 pub mod ColumnLaws
 pub mod Complement
 pub mod ComplementLists
-pub mod ComplementWords
 pub mod Complementing
 pub mod Equation
 pub mod ExpandedBuffers

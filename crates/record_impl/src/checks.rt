@@ -1,4 +1,5 @@
 // The lines of the refusals that speak of a record.
+ghost use Rattle.buffers.specs.internal.Numbers.{number_of};
 ghost use Rattle.std.specs.Prelude.{◌&&◌, ◌≡◌, ℕ, ◌≤◌, ltb, get_or, length};
 ghost use Rattle.buffers.specs.Refusals.{first_fitting, reaching};
 ghost use Rattle.record.specs.Lent.{lent_record, not_simple, record_lengths, record_lines};
@@ -7,9 +8,10 @@ ghost use Rattle.words.specs.Search.{some};
 ghost use Rattle.record_impl.specs.internal.Copies.{Copied};
 ghost use Rattle.record_impl.specs.internal.Looks.{Looked};
 
+use buffers::refusals::Refusal;
 use buffers::{bad_count, reaches, strays};
-use words::mask;
 use words::transposition::transpose;
+use words::{mask, single};
 
 // Line 4: one of the two buffers does not have n places.
 fn record_lengths(n: usize, neighbours: &[u64], codes: &[u8]) -> bool
@@ -25,14 +27,9 @@ fn square_of(n: usize, words: &[u64], rows: &mut [u64; 64]) -> u64
     ensures by_index { (c : ℕ) → bit result c ≡ (ltb c n && bit (get_or words.now c 0) c) }
 {
     let mut own = 0;
-    let mut place = 1;
-    let mut i = 0;
-    while i < n {
-        let word = words[i];
-        own = own | (word & place);
-        rows[i] = word;
-        place = place << 1;
-        i += 1;
+    for i in 0..n {
+        own |= words[i] & single(i);
+        rows[i] = words[i];
     }
     own
 }
@@ -44,10 +41,8 @@ fn unequal(n: usize, words: &[u64], rows: &[u64; 64]) -> u64
         ⊕ bit (get_or rows.now i 0) c) }
 {
     let mut all = 0;
-    let mut i = 0;
-    while i < n {
-        all = all | (words[i] ^ rows[i]);
-        i += 1;
+    for i in 0..n {
+        all |= words[i] ^ rows[i];
     }
     all
 }
@@ -63,56 +58,61 @@ pub fn not_simple(n: usize, neighbours: &[u64]) -> bool
     (own | unequal(n, neighbours, &rows)) & mask(n) != 0
 }
 
-// Line 6: whether a code is 24 or more. `looked`: the caller has looked at the codes, and `over` says it.
-fn over_known(codes: &[u8], looked: bool, over: bool) -> bool
-    requires { Looked looked codes.now over }
+// Line 6: whether a code is 24 or more, where the caller has looked at the codes as it says.
+fn over_known(codes: &[u8], over: Option<bool>) -> bool
+    requires { Looked over codes.now }
     ensures { result ≡ reaching 24 codes.now }
 {
-    if looked {
-        return over;
+    match over {
+        Some(known) => known,
+        None => reaches(codes, 24),
     }
-    reaches(codes, 24)
 }
 
-// The first line of a record that holds; 0 where none does. `others`: a further buffer of the call has a wrong
-// length; `looked`: the caller has looked at the codes, and `over` says whether one is 24 or more; `six`: line 6 holds of a
-// further argument.
+// The first line of a record that holds; `Ok` where none does. `others`: a further buffer of the call has a wrong
+// length; `over`: whether a code is 24 or more, where the caller has looked; `six`: line 6 holds of a further
+// argument.
 pub fn record_number(
     n: u64,
     neighbours: &[u64],
     codes: &[u8],
     others: bool,
-    looked: bool,
-    over: bool,
+    over: Option<bool>,
     six: bool,
-) -> u8
-    requires { Looked looked codes.now over }
-    ensures { result ≡ first_fitting (record_lines (lent_record n neighbours.now codes.now)
+) -> Result<(), Refusal>
+    requires { Looked over codes.now }
+    ensures { number_of result ≡ first_fitting (record_lines (lent_record n neighbours.now codes.now)
         others six) }
 {
     if bad_count(n) {
-        return 2;
+        return Err(Refusal::Count);
     }
     let count = n as usize;
     if record_lengths(count, neighbours, codes) | others {
-        return 4;
+        return Err(Refusal::Length);
     }
     if strays(neighbours, count) {
-        return 5;
+        return Err(Refusal::Stray);
     }
-    if over_known(codes, looked, over) | six {
-        return 6;
+    if over_known(codes, over) | six {
+        return Err(Refusal::Value);
     }
     if not_simple(count, neighbours) {
-        return 7;
+        return Err(Refusal::Graph);
     }
-    0
+    Ok(())
 }
 
 // The same, where the codes have not been looked at.
-pub fn record_refusal(n: u64, neighbours: &[u64], codes: &[u8], others: bool, six: bool) -> u8
-    ensures { result ≡ first_fitting (record_lines (lent_record n neighbours.now codes.now)
+pub fn record_refusal(
+    n: u64,
+    neighbours: &[u64],
+    codes: &[u8],
+    others: bool,
+    six: bool,
+) -> Result<(), Refusal>
+    ensures { number_of result ≡ first_fitting (record_lines (lent_record n neighbours.now codes.now)
         others six) }
 {
-    record_number(n, neighbours, codes, others, false, false, six)
+    record_number(n, neighbours, codes, others, None, six)
 }

@@ -47,12 +47,10 @@ pub fn expand_into(
         codes.now))).x }
 {
     let by = action_of(codes);
-    let mut j = 0;
-    while j < n {
+    for j in 0..n {
         let g = expanded_row(neighbours, by, j);
         signs[j] = sign_digit(g.minus);
         z[j] = g.z;
         x[j] = g.x;
-        j += 1;
     }
 }

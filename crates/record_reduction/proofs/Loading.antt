@@ -1,14 +1,11 @@
 -- A lent list loaded into the tableau, and what an accepted list gives the elimination.
-use mathlib.Core.Bool.{◌&&◌, Bool, cond, false, not}
+use mathlib.Core.Bool.{Bool, cond, false, not}
 use mathlib.Core.List.{List, [], ◌∷◌}
-use mathlib.Core.Logic.{inl, inr, ◌≢◌, ◌⊎◌}
+use mathlib.Core.Logic.{inl, inr, ◌⊎◌}
 use mathlib.Core.Path.{ap, ap₂, fun_ext, refl, subst, sym, ◌∙◌, ◌≡◌}
-use Prim.Native.Nat.{◌+◌, ◌<◌, zero-le, ℕ, ◌≤◌}
-use native.Mathlib.Nat.{le_refl, le_trans, lt_irrefl, lt_of_lt_of_le, not-suc-le-zero}
-use native.Mathlib.Omega.{arith}
-use lib.Dec.{eqb}
-use lib.ListN.{get_or-eq_default, get_or, get_or-replicate, length, length-replicate, replicate, set}
-use borrow.Author.Count.{below_more}
+use Prim.Native.Nat.{◌<◌, zero-le, ℕ, ◌≤◌}
+use native.Mathlib.Nat.{le_trans, not-suc-le-zero}
+use lib.ListN.{get_or-eq_default, get_or, get_or-replicate, length, length-replicate, replicate}
 use Rattle.pauli.proofs.PauliLaws.{Pauli-path}
 use Rattle.pauli.specs.Pauli.{Pauli, identity, signed_row}
 use Rattle.record.specs.Lent.{code_numbers, neighbour_words}
@@ -19,10 +16,8 @@ use Rattle.stabilizer.specs.Groups.{Within}
 use Rattle.stabilizer.specs.Lists.{GeneratorList, dependent, rows}
 use Rattle.stabilizer.specs.internal.Tableau.{tableau}
 use Rattle.words.proofs.BitLaws.{zero_bit}
-use Rattle.words.proofs.Places.{other_place}
 use Rattle.words.proofs.Sums.{lt-or-ge}
-use Rattle.words.specs.Bits.{bit, is_odd, ◌⊕◌}
-use Rattle.record_reduction.proofs.Storing.{stored-elsewhere, stored_here, stored-long}
+use Rattle.words.specs.Bits.{bit, is_odd}
 use Rattle.record_reduction.specs.internal.Passes.{Loaded}
 use Rattle.record_reduction.specs.internal.Reducible.{Reducible}
 
@@ -77,30 +72,6 @@ module _ (l : GeneratorList) where
           ap (λ (v : List ℕ). signed_row false (get_or v 0 0) (get_or v 1 0))
           (get_or-eq_default (replicate 64 blank_row) []
           (subst (λ m. m ≤ j) (sym (length-replicate 64 blank_row)) k)) ∙ blank
-
-  module _ (loaded : List (List ℕ)) (minuses i : ℕ) (D : LoadedBelow loaded minuses i) (h : i < l.n)
-      (hn : l.n ≤ 64)
-      (loaded' : List (List ℕ)) (minuses' : ℕ) (b : Bool) (e : b ≡ is_odd (get_or l.signs i 0))
-      (r : loaded' ≡ set loaded i (get_or l.z i 0 ∷ get_or l.x i 0 ∷ []))
-      (s : (k : ℕ) → bit minuses' k ≡ bit minuses k ⊕ (eqb k i && b)) where
-    pub load_step : LoadedBelow loaded' minuses' (i + 1)
-    load_step =
-        record {
-          long = stored-long loaded minuses i D.long (lt_of_lt_of_le h hn) loaded' minuses' _ _ b r s;
-          upto = omega arith;
-          done = below_more _ i
-              (λ j k. elsewhere j (λ p. lt_irrefl i (subst (λ w. w < i) p k)) ∙ D.done j k)
-              (stored_here loaded minuses i D.long (lt_of_lt_of_le h hn) loaded' minuses' _ _ b r s
-              ∙ ap₂ (λ u v. signed_row (u ⊕ v) (get_or l.z i 0) (get_or l.x i 0)) (D.plus i (le_refl i)) e);
-          rest = λ j k. elsewhere j (λ p. lt_irrefl i (omega (arith, k, p))) ∙ D.rest j (omega arith);
-          plus = λ j k. s j
-              ∙ ap₂ (λ u v. u ⊕ (v && b)) (D.plus j (omega arith))
-              (other_place {i = j} {j = i} (λ p. lt_irrefl i (omega (arith, k, p))));
-        }
-      where
-        elsewhere : (j : ℕ) → j ≢ i → tableau minuses' loaded' j ≡ tableau minuses loaded j
-        elsewhere = stored-elsewhere loaded minuses i D.long (lt_of_lt_of_le h hn) loaded' minuses' _ _ b r
-            s
 
   pub load-end : (loaded : List (List ℕ)) (minuses i : ℕ) → LoadedBelow loaded minuses i → l.n ≤ i →
       length l.signs ≡ l.n → length l.z ≡ l.n → length l.x ≡ l.n → (j : ℕ) →

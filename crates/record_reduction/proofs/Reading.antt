@@ -1,14 +1,13 @@
 -- The record read off the rows: the neighbour words and the codes.
-use mathlib.Core.Bool.{◌&&◌, Bool, and-false, and-true, false, not, true}
+use mathlib.Core.Bool.{◌&&◌, Bool, and-false, and-true, false, not}
 use mathlib.Core.List.{List, []}
 use mathlib.Core.Logic.{inl, inr, ◌⊎◌}
-use mathlib.Core.Path.{ap, ap₂, refl, sym, ◌∙◌, ◌≡◌}
-use Prim.Native.Nat.{◌*◌, ◌+◌, ◌<◌, ℕ, ◌≤◌}
-use lib.Dec.{eqb, lit<}
+use mathlib.Core.Path.{ap, ap₂, sym, ◌∙◌, ◌≡◌}
+use Prim.Native.Nat.{◌<◌, ℕ, ◌≤◌}
+use lib.Dec.{eqb}
 use lib.ListN.{get_or}
-use mir.Val.{bool_byte}
 use borrow.Author.Tests.{lt-ltb}
-use Rattle.clifford.specs.Clifford.{clifford_of, code_of, then}
+use Rattle.clifford.specs.Clifford.{code_of}
 use Rattle.pauli.proofs.PhaseLaws.{sign-minus}
 use Rattle.pauli.specs.Pauli.{minus, sign_bit}
 use Rattle.record.specs.Reduced.{graph_of, minuses_of, plain_code, record_of, with_hadamard, ys_of}
@@ -64,41 +63,3 @@ vertex-number n hadamards signs rows q l v {y = y} {s = s} eh ey es e =
     ∙ ap₂ (λ a b. code_of (with_hadamard (bit hadamards q) (plain_code a b)))
     (ey ∙ sym (ap (λ b. b && bit (get_or (get_or rows q []) 0 0) q) (lt-ltb q n l)))
     (es ∙ sym (ap (λ b. b && sign_bit (minus (bit signs q))) (lt-ltb q n l) ∙ sign-minus (bit signs q)))
-
--- ---- the code of a vertex, by its three bits
--- the number of a code without a Hadamard, as the source reckons it
-abbrev pub plain_number : Bool → Bool → ℕ
-plain_number y s = 4 * bool_byte y + 2 * bool_byte s
-
-pub plain-lt : (y s : Bool) → plain_number y s < 24
-plain-lt false false = lit< tt
-plain-lt false true = lit< tt
-plain-lt true false = lit< tt
-plain-lt true true = lit< tt
-
-plain-is : (y s : Bool) → clifford_of (plain_number y s) ≡ plain_code y s
-plain-is false false = refl
-plain-is false true = refl
-plain-is true false = refl
-plain-is true true = refl
-
-plain-number : (y s : Bool) → plain_number y s ≡ code_of (plain_code y s)
-plain-number false false = refl
-plain-number false true = refl
-plain-number true false = refl
-plain-number true true = refl
-
--- without a Hadamard
-pub plain-vertex : (h y s : Bool) → h ≡ false
-    → (plain_number y s ≡ code_of (with_hadamard h (plain_code y s))) × (plain_number y s < 24)
-plain-vertex h y s e =
-    (plain-number y s ∙ sym (ap (λ b. code_of (with_hadamard b (plain_code y s))) e), plain-lt y s)
-
--- with one
-pub turned-vertex : (h y s : Bool) (r : ℕ) → h ≡ true → r ≡ code_of (then (clifford_of (plain_number y s)) (clifford_of 8))
-    → r < 24 → (r ≡ code_of (with_hadamard h (plain_code y s))) × (r < 24)
-turned-vertex h y s r e t l = (
-  t ∙ ap (λ k. code_of (then k (clifford_of 8))) (plain-is y s)
-      ∙ sym (ap (λ b. code_of (with_hadamard b (plain_code y s))) e),
-  l,
-)

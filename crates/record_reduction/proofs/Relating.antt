@@ -3,7 +3,7 @@ use mathlib.Core.Bool.{◌&&◌, Bool, and-false, false, true}
 use mathlib.Core.List.{List, []}
 use mathlib.Core.Logic.{inl, inr, ◌⊎◌}
 use mathlib.Core.Path.{ap, ap₂, fun_ext, refl, subst, sym, ◌∙◌, ◌≡◌}
-use Prim.Native.Nat.{◌+◌, ◌*◌, ◌/◌, ◌<◌, ◌^◌, zero-le, ℕ, ◌≤◌}
+use Prim.Native.Nat.{◌+◌, ◌*◌, ◌/◌, ◌<◌, ◌^◌, ℕ, ◌≤◌}
 use native.Mathlib.Decide.{ℕ_discrete}
 use native.Mathlib.Nat.{le_trans}
 use native.Mathlib.Omega.{arith}
@@ -71,13 +71,6 @@ module _ (rows : List (List ℕ)) (signs₀ n : ℕ) where
     pub upto : k ≤ n
     pub paired : (j : ℕ) → bit signs j
         ≡ bit signs₀ j ⊕ (ltb j k && half_y (get_or (get_or rows j []) 0 0) (get_or (get_or rows j []) 1 0))
-
-  pub paired-start : Paired signs₀ 0
-  paired-start =
-      record {
-        upto = zero-le;
-        paired = λ j. sym (ap (λ b. bit signs₀ j ⊕ (b && half j)) (le-ltb j 0 zero-le) ∙ ⊕-zero (bit signs₀ j));
-      }
 
   pub paired-step : (signs k : ℕ) → Paired signs k → k < n → {signs' : ℕ} {b : Bool}
       → b ≡ half_y (get_or (get_or rows k []) 0 0) (get_or (get_or rows k []) 1 0)

@@ -3,8 +3,8 @@ use mathlib.Core.Bool.{◌&&◌, Bool, cond, false}
 use mathlib.Core.List.{List, [], ◌∷◌}
 use mathlib.Core.Logic.{inl, inr, ◌≢◌, ◌⊎◌}
 use mathlib.Core.Path.{ap, ap₂, refl, subst, sym, ◌∙◌, ◌≡◌}
-use Prim.Native.Nat.{◌+◌, ◌/◌, ◌<◌, ◌^◌, zero-le, ℕ, ◌≤◌}
-use native.Mathlib.Nat.{le_refl, le_trans, lt_irrefl, lt_of_lt_of_le, not-suc-le-zero}
+use Prim.Native.Nat.{◌+◌, ◌/◌, ◌<◌, ◌^◌, ℕ, ◌≤◌}
+use native.Mathlib.Nat.{le_refl, le_trans, lt_irrefl, lt_of_lt_of_le}
 use native.Mathlib.Omega.{arith}
 use lib.Bits.{bit_and, bit_xor}
 use lib.Count.{ones}
@@ -98,10 +98,6 @@ module _ (rows₀ : List (List ℕ)) (signs₀ n h : ℕ) where
     pub done : (j : ℕ) → j < i
         → relative (bit signs) rows j ≡ act 64 (hadamard_where (bit h)) (relative (bit signs₀) rows₀ j)
     pub rest : (j : ℕ) → i ≤ j → relative (bit signs) rows j ≡ relative (bit signs₀) rows₀ j
-
-  pub rotate-start : length rows₀ ≡ 64 → Rotated rows₀ signs₀ 0
-  rotate-start l =
-      record { long = l; upto = zero-le; done = λ j k. absurd (not-suc-le-zero k); rest = λ j k. refl }
 
   module _ (rows : List (List ℕ)) (signs i : ℕ) (D : Rotated rows signs i) (l : i < n) (hn : n ≤ 64)
       (small : h < 2 ^ 64)

@@ -49,15 +49,6 @@ pub record Stage (n all : ℕ) (R₀ R : ℕ → Pauli) (pivots hadamards round 
   pub once : round ≡ 1 → Turned n all R₀ R pivots hadamards
   pub both : round ≡ 2 → Both n all R₀ R pivots hadamards
 
-pub stage-start : (n all : ℕ) (R₀ : ℕ → Pauli) (hadamards : ℕ) → Stage n all R₀ R₀ 0 hadamards 0
-stage-start n all R₀ hadamards =
-    record {
-      upto = omega arith;
-      begun = λ e. (refl, refl);
-      once = λ e. absurd (lt_irrefl 0 (omega (arith, e)));
-      both = λ e. absurd (lt_irrefl 0 (omega (arith, e)));
-    }
-
 module _ (n : ℕ) (l : n ≤ 64) (all : ℕ) (m : all ≡ 2 ^ n - 1) (R₀ : ℕ → Pauli) (L : Loaded n R₀) (R : ℕ → Pauli)
     (pivots hadamards : ℕ) where
   pub stage-loaded : (round : ℕ) → Stage n all R₀ R pivots hadamards round → round < 2 → Loaded n R

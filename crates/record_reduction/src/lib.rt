@@ -30,19 +30,17 @@ pub fn load_list(n: usize, signs: &[u8], z: &[u64], x: &[u64], minuses: &mut u64
     }) j }
 {
     let mut loaded = [[0, 0]; 64];
-    let mut j = 0;
-    while j < n {
+    for j in 0..n {
         loaded[j] = [z[j], x[j]];
         *minuses = flip_where(*minuses, j, signs[j] % 2 == 1);
-        j += 1;
     }
     loaded
 }
 
 // The reduced record of the tableau's group, where its rows are independent: then it is written, and the answer is
-// true. All work is done on the array and the word of signs that were passed by value, and no call in it has the array
-// but the last. Between the first loop and the end the signs are relative to the rows' pairs of Y; at the end no row has
-// a pair. The word pivots names the columns that have a pivot, and so their rows.
+// true. All work is done on the array and the word of signs that were passed by value, and no call in it has the
+// array but the last. Between the first loop and the end the signs are relative to the rows' pairs of Y; at the end
+// no row has a pair. The word pivots names the columns that have a pivot, and so their rows.
 pub fn reduce_tableau(
     mut rows: [[u64; 2]; 64],
     mut signs: u64,
@@ -59,54 +57,40 @@ pub fn reduce_tableau(
         ≡ cond result (code_numbers n (reduced n (tableau signs rows))) codes.old }
 {
     let all = mask(n);
-    let mut k = 0;
-    while k < n {
-        let row = rows[k];
-        signs = flip_where(signs, k, odd_pairs(row[0], row[1]));
-        k += 1;
+    for k in 0..n {
+        let [z, x] = rows[k];
+        signs = flip_where(signs, k, odd_pairs(z, x));
     }
     let mut pivots = 0;
     let mut hadamards = 0;
-    let mut round = 0usize;
-    while round < 2 {
+    for round in 0..2usize {
         // A pass over the columns without a pivot: where an unused row has x bit q, column q gets its pivot, row q.
-        let mut q = 0;
-        while q < n {
+        for q in 0..n {
             if !has(pivots, q) {
                 // The rows that have x bit q.
                 let mut holders = 0;
-                let mut j = n;
-                while 0 < j {
-                    j -= 1;
-                    let row = rows[j];
-                    holders = 2 * holders + ((row[1] >> q) & 1);
+                for j in (0..n).rev() {
+                    let [_, x] = rows[j];
+                    holders = 2 * holders + ((x >> q) & 1);
                 }
                 let free = holders ^ (holders & pivots);
                 if free != 0 {
                     // Row i lends its x bit to row q, where that one lacks it.
                     if !has(holders, q) {
                         let i = smallest(free);
-                        let lender = rows[i];
-                        let z2 = lender[0];
-                        let x2 = lender[1];
-                        let row = rows[q];
-                        let z = row[0];
-                        let x = row[1];
+                        let [z2, x2] = rows[i];
+                        let [z, x] = rows[q];
                         let minus = odd(minus_word(z, x, z2, x2));
                         rows[q] = [z ^ z2, x ^ x2];
                         signs = flip_where(signs, q, has(signs, i) != minus);
                     }
                     // Row q clears the bit from every other row.
-                    let by = rows[q];
-                    let by_z = by[0];
-                    let by_x = by[1];
+                    let [by_z, by_x] = rows[q];
                     let mut rest = put_bit(holders, q, false);
-                    signs = signs ^ where_true(has(signs, q), rest);
+                    signs ^= where_true(has(signs, q), rest);
                     while rest != 0 {
                         let i = smallest(rest);
-                        let row = rows[i];
-                        let z = row[0];
-                        let x = row[1];
+                        let [z, x] = rows[i];
                         let minus = minus_word(z, x, by_z, by_x);
                         rows[i] = [z ^ by_z, x ^ by_x];
                         signs = flip_odd(signs, i, minus);
@@ -115,24 +99,18 @@ pub fn reduce_tableau(
                     pivots = put_bit(pivots, q, true);
                 }
             }
-            q += 1;
         }
         // Hadamards on the columns without a pivot: z and x are exchanged there, and a sign flips for each Y.
         if round == 0 {
             hadamards = all ^ pivots;
-            let mut i = 0;
-            while i < n {
-                let row = rows[i];
-                let z = row[0];
-                let x = row[1];
+            for i in 0..n {
+                let [z, x] = rows[i];
                 let swapped = (z ^ x) & hadamards;
                 let minus = odd((z & x) & hadamards);
                 rows[i] = [z ^ swapped, x ^ swapped];
                 signs = flip_where(signs, i, minus);
-                i += 1;
             }
         }
-        round += 1;
     }
     if pivots != all {
         return false;

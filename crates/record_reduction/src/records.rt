@@ -38,11 +38,9 @@ pub fn write_record(
     ensures codes_after { codes.new
         ≡ code_numbers n (record_of n (bit hadamards) (tableau signs rows)) }
 {
-    let mut q = 0;
-    while q < n {
+    for q in 0..n {
         let row = rows[q];
         neighbours[q] = put_bit(row[0], q, false);
         codes[q] = vertex_code(has(hadamards, q), has(row[0], q), has(signs, q));
-        q += 1;
     }
 }

@@ -1,5 +1,5 @@
 -- A row added to later rows, one place of the two arrays after another, and what that does to the rows' bits.
-use mathlib.Core.Bool.{◌&&◌, Bool, and-false, cond, false, true}
+use mathlib.Core.Bool.{◌&&◌, Bool, cond, false, true}
 use mathlib.Core.List.{List}
 use mathlib.Core.Path.{ap, ap₂, refl, sym, ◌∙◌, ◌≡◌}
 use Prim.Native.Nat.{◌+◌, ◌<◌, ℕ, ◌≤◌}
@@ -8,9 +8,8 @@ use lib.Bits.{bit_xor}
 use lib.Dec.{ltb}
 use lib.ListN.{get_or, length, set}
 use borrow.Author.Tests.{le-ltb, lt-ltb}
-use Rattle.buffers.proofs.Mapping.{Mapped, mapped_end, mapped-store}
-use Rattle.words.proofs.BitLaws.{bit-cond, bit-ext∞, bit-xor}
-use Rattle.words.proofs.Finite.{⊕-zero}
+use Rattle.buffers.proofs.Mapping.{Mapped, mapped-store}
+use Rattle.words.proofs.BitLaws.{bit-cond, bit-xor}
 use Rattle.words.specs.Bits.{bit, ◌⊕◌}
 use Rattle.stabilizer.proofs.Pairs.{letters_of}
 use Rattle.stabilizer_impl.proofs.Pivots.{letter_bit}
@@ -22,23 +21,13 @@ sum-bit b words k j q =
     bit-xor (get_or words j 0) (cond b (get_or words k 0) 0) q
     ∙ ap (λ c. bit (get_or words j 0) q ⊕ c) (bit-cond b (get_or words k 0) q)
 
--- a row that is not to have it stays
-sum-none : (b : Bool) (words : List ℕ) (k j : ℕ) → b ≡ false → get_or words j 0 ≡ sum_where b words k j
-sum-none b words k j e = sym (bit-ext∞ _ _ (λ q. sum-bit b words k j q
-    ∙ ap (λ c. bit (get_or words j 0) q ⊕ (c && bit (get_or words k 0) q)) e ∙ ⊕-zero (bit (get_or words j 0) q)))
-
 module _ (n k : ℕ) (in-x : Bool) (i : ℕ) (z x : List ℕ) where
   abbrev named : ℕ → Bool
   named = later_with n k in-x i z x
 
-  -- the rows before and after those of the loop
+  -- the rows before those of the loop
   pub not-later : (j : ℕ) → j ≤ k → named j ≡ false
   not-later j l = ap (λ b. (b && ltb j n) && bit (cond in-x (get_or x j 0) (get_or z j 0)) i) (le-ltb k j l)
-
-  not-below : (j : ℕ) → n ≤ j → named j ≡ false
-  not-below j l =
-      ap (λ b. (ltb k j && b) && bit (cond in-x (get_or x j 0) (get_or z j 0)) i) (le-ltb j n l)
-      ∙ ap (λ b. b && bit (cond in-x (get_or x j 0) (get_or z j 0)) i) (and-false (ltb k j))
 
   is_later : (j : ℕ) → k < j → j < n → named j ≡ bit (cond in-x (get_or x j 0) (get_or z j 0)) i
   is_later j l m = ap₂ (λ a b. (a && b) && bit (cond in-x (get_or x j 0) (get_or z j 0)) i) (lt-ltb k j l) (lt-ltb j n m)
@@ -52,18 +41,6 @@ module _ (n k : ℕ) (in-x : Bool) (i : ℕ) (z x : List ℕ) where
     pub upto : j ≤ n
     pub z-mapped : Mapped (Wanted z) z z' j
     pub x-mapped : Mapped (Wanted x) x x' j
-
-  pub adding-start : k < n → Adding z x (k + 1)
-  adding-start l =
-      record { past = omega arith; upto = omega arith; z-mapped = mapped z; x-mapped = mapped x }
-    where
-      mapped : (words : List ℕ) → Mapped (Wanted words) words words (k + 1)
-      mapped words =
-          record {
-            long = refl;
-            done = λ j m. sum-none (named j) words k j (not-later j (omega arith));
-            rest = λ j m. refl;
-          }
 
   module _ (z' x' : List ℕ) (j : ℕ) (A : Adding z' x' j) where
     module _ (more : j < n) (z-fits : n ≤ length z) (x_fits : n ≤ length x)
@@ -90,17 +67,6 @@ module _ (n k : ℕ) (in-x : Bool) (i : ℕ) (z x : List ℕ) where
             x-mapped = mapped-store (Wanted x) x x' j _ A.x-mapped (omega arith)
                 (wanted x x' A.x-mapped by-x part-x bx px);
           }
-
-    pub adding-end : n ≤ j → length z ≡ 64 → length x ≡ 64 → Added n k in-x i z x z' x'
-    adding-end l lz lx =
-        record {
-          z-long = A.z-mapped.long ∙ lz;
-          x-long = A.x-mapped.long ∙ lx;
-          z-words = mapped_end (Wanted z) z z' n j A.z-mapped l A.upto
-              (λ t m. sum-none (named t) z k t (not-below t m));
-          x-words = mapped_end (Wanted x) x x' n j A.x-mapped l A.upto
-              (λ t m. sum-none (named t) x k t (not-below t m));
-        }
 
   -- ---- the bits of the rows
   module _ (z' x' : List ℕ) (A : Added n k in-x i z x z' x') where

@@ -22,7 +22,7 @@ fn by_bit(w: u64, i: usize, by: u64) -> u64
     requires { i < 64 }
     ensures { result ≡ cond (bit w i) by 0 }
 {
-    (((w >> i) & 1) * 0xFFFF_FFFF_FFFF_FFFF) & by
+    (((w >> i) & 1) * u64::MAX) & by
 }
 
 // Row k added to each later row below n that has bit i in its x word, or in its z word.
@@ -33,14 +33,12 @@ fn add_to_later(z: &mut [u64; 64], x: &mut [u64; 64], n: usize, k: usize, in_x: 
 {
     let by_z = z[k];
     let by_x = x[k];
-    let mut j = k + 1;
-    while j < n {
+    for j in k + 1..n {
         let row_z = z[j];
         let row_x = x[j];
         let word = chosen_word(in_x, row_z, row_x);
         z[j] = row_z ^ by_bit(word, i, by_z);
         x[j] = row_x ^ by_bit(word, i, by_x);
-        j += 1;
     }
 }
 
@@ -52,8 +50,7 @@ pub fn independent(n: usize, z: &[u64], x: &[u64]) -> bool
 {
     let mut own_z = copied_words(z);
     let mut own_x = copied_words(x);
-    let mut k = 0;
-    while k < n {
+    for k in 0..n {
         let row_x = own_x[k];
         let in_x = row_x != 0;
         let word = chosen_word(in_x, own_z[k], row_x);
@@ -61,7 +58,6 @@ pub fn independent(n: usize, z: &[u64], x: &[u64]) -> bool
             return false;
         }
         add_to_later(&mut own_z, &mut own_x, n, k, in_x, smallest(word));
-        k += 1;
     }
     true
 }

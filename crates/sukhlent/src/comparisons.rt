@@ -4,6 +4,8 @@ ghost use Rattle.calls.specs.RecordComparisons.{compare_records_call};
 ghost use Rattle.buffers.specs.Calls.{Call};
 ghost use Rattle.record.specs.Lent.{lent_record};
 
+use buffers::refusals::number_of;
+
 // The least choice that carries the group of the first list onto that of the second, and the complementations that
 // turn the first reduced graph into the second.
 #[unsafe(no_mangle)]
@@ -26,7 +28,7 @@ pub extern "C" fn sukhlent_compare(
         choice.old list.old count.old
         choice.new list.new count.new) result }
 {
-    call_compare::compare(n1, signs1, z1, x1, n2, signs2, z2, x2, choice, list, count)
+    number_of(call_compare::compare(n1, signs1, z1, x1, n2, signs2, z2, x2, choice, list, count))
 }
 
 // The least choice that carries the group of the first record onto that of the second, and the complementations that
@@ -49,7 +51,7 @@ pub extern "C" fn sukhlent_compare_records(
         choice.old list.old count.old
         choice.new list.new count.new) result }
 {
-    call_compare::records::compare_records(
+    number_of(call_compare::records::compare_records(
         n1,
         neighbours1,
         codes1,
@@ -59,5 +61,5 @@ pub extern "C" fn sukhlent_compare_records(
         choice,
         list,
         count,
-    )
+    ))
 }

@@ -3,6 +3,8 @@ ghost use Rattle.calls.specs.Equivalences.{equivalent_call, equivalent_records_c
 ghost use Rattle.buffers.specs.Calls.{Call};
 ghost use Rattle.record.specs.Lent.{lent_record};
 
+use buffers::refusals::number_of;
+
 // The least choice that carries the group of the first list onto that of the second, and the complementations that
 // turn the first reduced graph into the second.
 #[unsafe(no_mangle)]
@@ -25,7 +27,7 @@ pub extern "C" fn sukhlent_equivalent(
         choice.old list.old count.old
         choice.new list.new count.new) result }
 {
-    call_compare::equivalent(n1, signs1, z1, x1, n2, signs2, z2, x2, choice, list, count)
+    number_of(call_compare::equivalent(n1, signs1, z1, x1, n2, signs2, z2, x2, choice, list, count))
 }
 
 // The least choice that carries the group of the first record onto that of the second, and the complementations that
@@ -48,7 +50,7 @@ pub extern "C" fn sukhlent_equivalent_records(
         choice.old list.old count.old
         choice.new list.new count.new) result }
 {
-    call_compare::records::equivalent_records(
+    number_of(call_compare::records::equivalent_records(
         n1,
         neighbours1,
         codes1,
@@ -58,5 +60,5 @@ pub extern "C" fn sukhlent_equivalent_records(
         choice,
         list,
         count,
-    )
+    ))
 }

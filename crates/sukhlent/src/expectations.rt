@@ -3,6 +3,8 @@ ghost use Rattle.calls.specs.Expectations.{expectation_call};
 ghost use Rattle.buffers.specs.Calls.{Call};
 ghost use Rattle.operations.specs.Used.{used_record};
 
+use buffers::refusals::number_of;
+
 // 0 where the row is in the record's group, 1 where its negative is, 2 where neither is.
 #[unsafe(no_mangle)]
 pub extern "C" fn sukhlent_expectation(
@@ -18,5 +20,5 @@ pub extern "C" fn sukhlent_expectation(
         (used_record n neighbours.now codes.now used) z x
         value.old value.new) result }
 {
-    call_readings::expectations::expectation(n, neighbours, codes, used, z, x, value)
+    number_of(call_readings::expectations::expectation(n, neighbours, codes, used, z, x, value))
 }

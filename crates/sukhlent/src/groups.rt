@@ -5,6 +5,8 @@ ghost use Rattle.buffers.specs.Calls.{Call};
 ghost use Rattle.operations.specs.Steps.{complement_of, cz_on, gate_with};
 ghost use Rattle.operations.specs.Used.{used_record};
 
+use buffers::refusals::number_of;
+
 // A group's gate: the group's vertices reduced, the others as they were.
 #[unsafe(no_mangle)]
 pub extern "C" fn sukhlent_group_gate(
@@ -21,7 +23,7 @@ pub extern "C" fn sukhlent_group_gate(
         (used_record n neighbours.old codes.old used)
         (gate_with qubit code) neighbours.new codes.new) result }
 {
-    call_parties::gate(n, word, group, neighbours, codes, used, qubit, code)
+    number_of(call_parties::gate(n, word, group, neighbours, codes, used, qubit, code))
 }
 
 // A group's CZ: the group's vertices reduced, the others as they were.
@@ -40,7 +42,7 @@ pub extern "C" fn sukhlent_group_cz(
         (used_record n neighbours.old codes.old used)
         (cz_on a b) neighbours.new codes.new) result }
 {
-    call_parties::cz(n, word, group, neighbours, codes, used, a, b)
+    number_of(call_parties::cz(n, word, group, neighbours, codes, used, a, b))
 }
 
 // A Pauli measured at a group's qubit: the outcome, whether it was determined, and the group's vertices reduced.
@@ -64,9 +66,9 @@ pub extern "C" fn sukhlent_group_measure(
         neighbours.new codes.new used.new answer.new
         determined.new) result }
 {
-    call_parties::measure(
+    number_of(call_parties::measure(
         n, word, group, neighbours, codes, used, pauli, qubit, outcome, answer, determined,
-    )
+    ))
 }
 
 // A group's local complementation; nothing is reduced.
@@ -84,7 +86,7 @@ pub extern "C" fn sukhlent_group_complement(
         (used_record n neighbours.old codes.old used)
         (complement_of a) neighbours.new codes.new) result }
 {
-    call_parties::complement(n, word, group, neighbours, codes, used, a)
+    number_of(call_parties::complement(n, word, group, neighbours, codes, used, a))
 }
 
 // The group's vertices saved under the name, at one of its four places.
@@ -108,7 +110,7 @@ pub extern "C" fn sukhlent_group_save(
           codes = held_codes.old;
         }) heads.exit.now held_neighbours.new held_codes.new) result }
 {
-    call_parties::stores::save(
+    number_of(call_parties::stores::save(
         n,
         word,
         group,
@@ -119,7 +121,7 @@ pub extern "C" fn sukhlent_group_save(
         heads,
         held_neighbours,
         held_codes,
-    )
+    ))
 }
 
 // The group's vertices as they are held under the name; the others as they were.
@@ -143,7 +145,7 @@ pub extern "C" fn sukhlent_group_return(
           codes = held_codes.now;
         }) neighbours.new codes.new used.new) result }
 {
-    call_parties::stores::return_to(
+    number_of(call_parties::stores::return_to(
         n,
         word,
         group,
@@ -154,7 +156,7 @@ pub extern "C" fn sukhlent_group_return(
         heads,
         held_neighbours,
         held_codes,
-    )
+    ))
 }
 
 // The place of the name among the group's four made free.
@@ -178,7 +180,7 @@ pub extern "C" fn sukhlent_group_forget(
           codes = held_codes.now;
         }) heads.exit.now) result }
 {
-    call_parties::stores::forget(
+    number_of(call_parties::stores::forget(
         n,
         word,
         group,
@@ -189,5 +191,5 @@ pub extern "C" fn sukhlent_group_forget(
         heads,
         held_neighbours,
         held_codes,
-    )
+    ))
 }

@@ -4,13 +4,15 @@ ghost use Rattle.calls.specs.Products.{product_call};
 ghost use Rattle.calls.specs.Strings.{read_strings_call, write_strings_call};
 ghost use Rattle.buffers.specs.Calls.{Call};
 
+use buffers::refusals::number_of;
+
 // Lines 2, 4, 5, 6, 9 and 10 of a generator list.
 #[unsafe(no_mangle)]
 pub extern "C" fn sukhlent_check(n: u64, signs: &[u8], z: &[u64], x: &[u64]) -> u8
     ensures { Call (check_call
         (record { n = n; signs = signs.now; z = z.now; x = x.now })) result }
 {
-    call_lists::check(n, signs, z, x)
+    number_of(call_lists::check(n, signs, z, x))
 }
 
 // The reduced record of a generator list.
@@ -29,7 +31,7 @@ pub extern "C" fn sukhlent_reduce(
         neighbours.old codes.old used.old
         neighbours.new codes.new used.new) result }
 {
-    call_lists::reduce_unused(n, signs, z, x, neighbours, codes, used)
+    number_of(call_lists::reduce_unused(n, signs, z, x, neighbours, codes, used))
 }
 
 // The product of the rows that a word chooses, and the power of i in front of its letters.
@@ -49,7 +51,7 @@ pub extern "C" fn sukhlent_product(
         product_z.old product_x.old phase.old
         product_z.new product_x.new phase.new) result }
 {
-    call_lists::product::product(n, signs, z, x, chosen, product_z, product_x, phase)
+    number_of(call_lists::product::product(n, signs, z, x, chosen, product_z, product_x, phase))
 }
 
 // The generator list of a text of Pauli strings.
@@ -64,7 +66,7 @@ pub extern "C" fn sukhlent_read_strings(
         signs.old z.old x.old
         signs.new z.new x.new) result }
 {
-    call_lists::strings::read_strings(text, signs, z, x)
+    number_of(call_lists::strings::read_strings(text, signs, z, x))
 }
 
 // The text of a generator list as Pauli strings.
@@ -80,5 +82,5 @@ pub extern "C" fn sukhlent_write_strings(
         (record { n = n; signs = signs.now; z = z.now; x = x.now })
         text.old text.new) result }
 {
-    call_lists::strings::write_strings(n, signs, z, x, text)
+    number_of(call_lists::strings::write_strings(n, signs, z, x, text))
 }

@@ -2,6 +2,8 @@
 ghost use Rattle.calls.specs.Orbits.{orbit_call};
 ghost use Rattle.buffers.specs.Calls.{Call};
 
+use buffers::refusals::number_of;
+
 // The numbers of all graphs that complementations reach from one on up to 6 vertices, rising, and how many there are.
 #[unsafe(no_mangle)]
 pub extern "C" fn sukhlent_orbit(
@@ -13,5 +15,5 @@ pub extern "C" fn sukhlent_orbit(
     ensures { Call (orbit_call n neighbours.now list.old count.old
         list.new count.new) result }
 {
-    call_readings::orbit_lists::orbit(n, neighbours, list, count)
+    number_of(call_readings::orbit_lists::orbit(n, neighbours, list, count))
 }

@@ -3,6 +3,8 @@ ghost use Rattle.calls.specs.Parities.{measure_row_call};
 ghost use Rattle.buffers.specs.Calls.{Call};
 ghost use Rattle.operations.specs.Used.{used_record};
 
+use buffers::refusals::number_of;
+
 // A Pauli row measured, with a bit by lot: the outcome, whether it was determined, and the reduced record.
 #[unsafe(no_mangle)]
 pub extern "C" fn sukhlent_measure_row(
@@ -21,5 +23,5 @@ pub extern "C" fn sukhlent_measure_row(
         z x bit answer.old determined.old
         neighbours.new codes.new answer.new determined.new) result }
 {
-    call_parity::measure_row(n, neighbours, codes, used, z, x, bit, answer, determined)
+    number_of(call_parity::measure_row(n, neighbours, codes, used, z, x, bit, answer, determined))
 }

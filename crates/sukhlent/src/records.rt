@@ -8,6 +8,8 @@ ghost use Rattle.operations.specs.Steps.{complement_of, cz_on, gate_with};
 ghost use Rattle.record.specs.Lent.{lent_record};
 ghost use Rattle.operations.specs.Used.{used_record};
 
+use buffers::refusals::number_of;
+
 // The generators of a record, in order.
 #[unsafe(no_mangle)]
 pub extern "C" fn sukhlent_expand(
@@ -24,7 +26,7 @@ pub extern "C" fn sukhlent_expand(
         signs.old z.old x.old
         signs.new z.new x.new) result }
 {
-    call_readings::expansions::expand(n, neighbours, codes, used, signs, z, x)
+    number_of(call_readings::expansions::expand(n, neighbours, codes, used, signs, z, x))
 }
 
 // A code applied after the code held at a qubit, and the reduced record.
@@ -41,7 +43,7 @@ pub extern "C" fn sukhlent_gate(
         (used_record n neighbours.old codes.old used)
         (gate_with qubit code) neighbours.new codes.new) result }
 {
-    call_gates::gate(n, neighbours, codes, used, qubit, code)
+    number_of(call_gates::gate(n, neighbours, codes, used, qubit, code))
 }
 
 // CZ on two qubits, and the reduced record.
@@ -58,7 +60,7 @@ pub extern "C" fn sukhlent_cz(
         (used_record n neighbours.old codes.old used)
         (cz_on a b) neighbours.new codes.new) result }
 {
-    call_gates::cz(n, neighbours, codes, used, a, b)
+    number_of(call_gates::cz(n, neighbours, codes, used, a, b))
 }
 
 // A Pauli measured at a qubit: the outcome, whether it was determined, and the reduced record.
@@ -80,9 +82,9 @@ pub extern "C" fn sukhlent_measure(
         neighbours.new codes.new used.new answer.new
         determined.new) result }
 {
-    call_gates::measure::measure(
+    number_of(call_gates::measure::measure(
         n, neighbours, codes, used, pauli, qubit, outcome, answer, determined,
-    )
+    ))
 }
 
 // Local complementation at a vertex; the record is not reduced.
@@ -98,7 +100,7 @@ pub extern "C" fn sukhlent_complement(
         (used_record n neighbours.old codes.old used)
         (complement_of a) neighbours.new codes.new) result }
 {
-    call_gates::complement::complement(n, neighbours, codes, used, a)
+    number_of(call_gates::complement::complement(n, neighbours, codes, used, a))
 }
 
 // The image graph, its signs, and the list of the vertices complemented.
@@ -117,7 +119,7 @@ pub extern "C" fn sukhlent_image(
         image.old signs.old list.old count.old
         image.new signs.new list.new count.new) result }
 {
-    call_readings::images::image(n, neighbours, codes, image, signs, list, count)
+    number_of(call_readings::images::image(n, neighbours, codes, image, signs, list, count))
 }
 
 // The rank of the edges between the marked side of a record's vertices and the other.
@@ -134,5 +136,5 @@ pub extern "C" fn sukhlent_cut(
         (used_record n neighbours.now codes.now used) side
         rank.old rank.new) result }
 {
-    call_readings::cuts::cut(n, neighbours, codes, used, side, rank)
+    number_of(call_readings::cuts::cut(n, neighbours, codes, used, side, rank))
 }

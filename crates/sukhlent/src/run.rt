@@ -3,6 +3,8 @@ ghost use Rattle.calls.specs.Runs.{run_call};
 ghost use Rattle.buffers.specs.Calls.{Call};
 ghost use Rattle.operations.specs.Used.{used_record};
 
+use buffers::refusals::number_of;
+
 // Steps on a record in place, one after the other, and what each answers.
 #[unsafe(no_mangle)]
 pub extern "C" fn sukhlent_run(
@@ -30,7 +32,7 @@ pub extern "C" fn sukhlent_run(
         }) neighbours.new codes.new used.new
         refusals.new outcomes.new determined.new) result }
 {
-    call_run::run(
+    number_of(call_run::run(
         n, neighbours, codes, used, ops, a, b, value, refusals, outcomes, determined,
-    )
+    ))
 }

@@ -4,6 +4,8 @@ ghost use Rattle.calls.specs.Sources.{party_observe_call, party_renew_call, obse
 ghost use Rattle.buffers.specs.Calls.{Call};
 ghost use Rattle.operations.specs.Used.{used_record};
 
+use buffers::refusals::number_of;
+
 // A Pauli measured at a qubit, with a bit by lot: the outcome, whether it was determined, and the reduced record.
 #[unsafe(no_mangle)]
 pub extern "C" fn sukhlent_observe(
@@ -23,9 +25,9 @@ pub extern "C" fn sukhlent_observe(
         neighbours.new codes.new used.new answer.new
         determined.new) result }
 {
-    call_source::observe(
+    number_of(call_source::observe(
         n, neighbours, codes, used, pauli, qubit, bit, answer, determined,
-    )
+    ))
 }
 
 // A new photon at a used qubit.
@@ -42,7 +44,7 @@ pub extern "C" fn sukhlent_renew(
         (used_record n neighbours.old codes.old used.old)
         qubit code neighbours.new codes.new used.new) result }
 {
-    call_source::renew(n, neighbours, codes, used, qubit, code)
+    number_of(call_source::renew(n, neighbours, codes, used, qubit, code))
 }
 
 // A Pauli measured at a qubit of a group, with a bit by lot.
@@ -66,9 +68,9 @@ pub extern "C" fn sukhlent_group_observe(
         neighbours.new codes.new used.new answer.new
         determined.new) result }
 {
-    call_parties::source_calls::observe(
+    number_of(call_parties::source_calls::observe(
         n, word, group, neighbours, codes, used, pauli, qubit, bit, answer, determined,
-    )
+    ))
 }
 
 // A new photon at a used qubit of a group.
@@ -87,5 +89,7 @@ pub extern "C" fn sukhlent_group_renew(
         (used_record n neighbours.old codes.old used.old)
         qubit code neighbours.new codes.new used.new) result }
 {
-    call_parties::source_calls::renew(n, word, group, neighbours, codes, used, qubit, code)
+    number_of(call_parties::source_calls::renew(
+        n, word, group, neighbours, codes, used, qubit, code,
+    ))
 }

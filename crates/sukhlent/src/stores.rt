@@ -3,6 +3,8 @@ ghost use Rattle.calls.specs.Stores.{forget_call, return_call, save_call};
 ghost use Rattle.buffers.specs.Calls.{Call};
 ghost use Rattle.operations.specs.Used.{used_record};
 
+use buffers::refusals::number_of;
+
 // The record saved under the name: at its place, else at the smallest free one.
 #[unsafe(no_mangle)]
 pub extern "C" fn sukhlent_save(
@@ -21,7 +23,7 @@ pub extern "C" fn sukhlent_save(
       codes = held_codes.old;
     }) heads.exit.now held_neighbours.new held_codes.new) result }
 {
-    call_store::save(
+    number_of(call_store::save(
         n,
         neighbours,
         codes,
@@ -30,7 +32,7 @@ pub extern "C" fn sukhlent_save(
         heads,
         held_neighbours,
         held_codes,
-    )
+    ))
 }
 
 // The record held under the name, brought back into buffers of 64 places.
@@ -52,7 +54,7 @@ pub extern "C" fn sukhlent_return(
     }) n.old neighbours.old codes.old used.old
         n.new neighbours.new codes.new used.new) result }
 {
-    call_store::return_to(
+    number_of(call_store::return_to(
         name,
         heads,
         held_neighbours,
@@ -61,7 +63,7 @@ pub extern "C" fn sukhlent_return(
         neighbours,
         codes,
         used,
-    )
+    ))
 }
 
 // The place of the name made free.
@@ -78,5 +80,5 @@ pub extern "C" fn sukhlent_forget(
       codes = held_codes.now;
     }) heads.exit.now) result }
 {
-    call_store::forget(name, heads, held_neighbours, held_codes)
+    number_of(call_store::forget(name, heads, held_neighbours, held_codes))
 }

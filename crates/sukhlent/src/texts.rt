@@ -3,6 +3,8 @@ ghost use Rattle.calls.specs.RecordTexts.{read_record_call, write_record_call};
 ghost use Rattle.buffers.specs.Calls.{Call};
 ghost use Rattle.operations.specs.Used.{used_record};
 
+use buffers::refusals::number_of;
+
 // The text of a record, and how many bytes it has.
 #[unsafe(no_mangle)]
 pub extern "C" fn sukhlent_write_record(
@@ -17,7 +19,7 @@ pub extern "C" fn sukhlent_write_record(
         (used_record n neighbours.now codes.now used)
         text.old length.old text.new length.new) result }
 {
-    call_texts::write_record(n, neighbours, codes, used, text, length)
+    number_of(call_texts::write_record(n, neighbours, codes, used, text, length))
 }
 
 // The record of a text.
@@ -33,5 +35,5 @@ pub extern "C" fn sukhlent_read_record(
         n.old neighbours.old codes.old used.old
         n.new neighbours.new codes.new used.new) result }
 {
-    call_texts::read_record(text, n, neighbours, codes, used)
+    number_of(call_texts::read_record(text, n, neighbours, codes, used))
 }

@@ -1,7 +1,7 @@
 -- The worked texts of document 01, at the definitions: the input, the output, a refusal, and the verdicts on
 -- the input, on the empty text and on the names alone.
 use mathlib.Core.Path.{◌≡◌, refl}
-use mathlib.Core.Bool.{true, false}
+use mathlib.Core.Bool.{true}
 use mathlib.Core.List.{List, [], ◌∷◌, ◌++◌}
 use Prim.Native.Nat.{ℕ, ◌+◌}
 use lib.ListN.{replicate}
@@ -21,7 +21,7 @@ use Rattle.text.specs.Text.{qubit_line, qubit_lines, record_text, refused_text}
 use Rattle.text.specs.internal.Feeding.{fed_bytes}
 use Rattle.text.specs.internal.Scan.{push, names_step, sign_step, z_step, x_step, one_more, scan_byte, begin}
 use Rattle.text.specs.internal.Scan.{Reading, as_reading, feed, fed, verdict}
-use Rattle.text.specs.declared.scan.Verdict.{Verdict}
+use Rattle.std.specs.Prelude.{Option, None, Some}
 
 -- XX and ZZ
 bell : List ListLine
@@ -63,17 +63,17 @@ refusal-text = refl
 reading_of : List ℕ → Reading
 reading_of t = fed (as_reading begin (replicate 64 0) (replicate 64 0) (replicate 64 0)) t
 
-judgement : List ℕ → Verdict
+judgement : List ℕ → Option ℕ
 judgement t = verdict (reading_of t).scan
 
-input-read : judgement input ≡ record { has_form = true; count = 2 }
+input-read : judgement input ≡ Some 2
 unfolding judgement reading_of verdict fed_bytes feed scan_byte names_step sign_step z_step x_step one_more hex_value push begin
 input-read = refl
 
-empty-read : judgement [] ≡ record { has_form = false; count = 0 }
+empty-read : judgement [] ≡ None
 unfolding judgement reading_of verdict fed_bytes begin
 empty-read = refl
 
-names-read : judgement list_names ≡ record { has_form = true; count = 0 }
+names-read : judgement list_names ≡ Some 0
 unfolding judgement reading_of verdict fed_bytes feed scan_byte names_step begin
 names-read = refl

@@ -1,11 +1,13 @@
 -- The verdict on a text, fed in blocks of any size: it says whether the text has the form, and then the lines
 -- of its list are counted and kept.
-use mathlib.Core.Path.{◌≡◌, refl, sym, ap, subst}
+use mathlib.Core.Path.{◌≡◌, ◌∙◌, refl, sym, ap, subst}
 use mathlib.Core.Bool.{Bool, true, false, ◌&&◌, cond, false≢true}
 use mathlib.Core.List.{List, [], ◌∷◌, ◌++◌, flatten}
 use Prim.Native.Nat.{ℕ}
 use lib.Dec.{ltb, lit<}
 use lib.ListN.{length}
+use Rattle.std.specs.Prelude.{None, Some}
+use Rattle.std.specs.Option.{is_some}
 use Rattle.text.specs.Text.{HasForm}
 use Rattle.text.specs.internal.Feeding.{fed_blocks}
 use Rattle.text.specs.internal.Scan.{
@@ -54,6 +56,10 @@ ends-sound (Z k) s t sofar e = absurd (false≢true e)
 ends-sound (X k) s t sofar e = absurd (false≢true e)
 ends-sound Broken s t sofar e = absurd (false≢true e)
 
+some-where : (t : Bool) (n : ℕ) → is_some (cond t (Some n) None) ≡ t
+some-where true n = refl
+some-where false n = refl
+
 module _ (A B C : List ℕ) (a : length A ≡ 64) (b : length B ≡ 64) (c : length C ≡ 64) where
   pub text-judged : (t : List ℕ) → Judged t (fed (as_reading begin A B C) t)
   unfolding verdict begin
@@ -61,8 +67,10 @@ module _ (A B C : List ℕ) (a : length A ≡ 64) (b : length B ≡ 64) (c : len
       let w = fed (as_reading begin A B C) t in
       record {
         form = (
-          ends-sound w.scan.place w.scan t (fed-sound t [] (as_reading begin A B C) (lit< tt, refl)),
-          λ has. ap at_sign (text-read A B C a b c has.0 t has.1).place,
+          λ some. ends-sound w.scan.place w.scan t (fed-sound t [] (as_reading begin A B C) (lit< tt, refl))
+              (sym (some-where (at_sign w.scan.place) w.scan.count) ∙ some),
+          λ has. some-where (at_sign w.scan.place) w.scan.count
+              ∙ ap at_sign (text-read A B C a b c has.0 t has.1).place,
         );
         lines = λ ls text. (text-read A B C a b c ls t text).kept;
       }

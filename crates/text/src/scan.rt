@@ -1,4 +1,4 @@
-// The scan of a text of a generator list: a few numbers, and the verdict at the text's end.
+// The scan of a text of a generator list: a few numbers.
 
 // What the next byte must be: a byte of the names line, a sign digit, the space after it, a digit of z or the space
 // after the last, a digit of x or the newline. The number counts the bytes of the field that have been read.
@@ -19,11 +19,5 @@ pub struct Scan {
     pub sign: u8,
     pub z: u64,
     pub x: u64,
-    pub count: usize,
-}
-
-#[derive(Clone, Copy)]
-pub struct Verdict {
-    pub has_form: bool,
     pub count: usize,
 }

@@ -1,12 +1,13 @@
 // Reads the text of a generator list in blocks of any size. A scan is a few numbers; the first 64 lines go to lent
 // buffers.
 ghost use Rattle.std.specs.Prelude.{◌≡◌};
-ghost use Rattle.text.specs.internal.Scan.{at_sign, begin, fed, as_reading, verdict};
+ghost use Rattle.text.specs.internal.Scan.{begin, fed, as_reading, verdict};
 
 use crate::scanning::scan_byte;
-use text::scan::{Place, Scan, Verdict};
+use text::scan::{Place, Scan};
 
 // The scan of the empty text.
+#[tactic(auto, unfolding(text::specs::internal::Scan::begin))]
 pub fn start() -> Scan
     ensures { result ≡ begin }
 {
@@ -31,9 +32,8 @@ pub fn scan_block(
         ≡ fed (as_reading from signs.old z.old x.old) block.now }
 {
     let mut s = from;
-    let mut i = 0;
-    while i < block.len() {
-        let next = scan_byte(s, block[i]);
+    for &b in block {
+        let next = scan_byte(s, b);
         let row = s.count;
         let count = next.count;
         if (row < count) & (row < 64) {
@@ -42,33 +42,17 @@ pub fn scan_block(
             x[row] = s.x;
         }
         s = next;
-        i += 1;
     }
     s
 }
 
-// Whether the next byte would start a line.
-fn at_sign(place: Place) -> bool
-    ensures { result ≡ at_sign place }
-{
-    match place {
-        Place::Names(_) => false,
-        Place::Sign => true,
-        Place::Space => false,
-        Place::Z(_) => false,
-        Place::X(_) => false,
-        Place::Broken => false,
-    }
-}
-
-// The text ends.
-pub fn finish(s: Scan) -> Verdict
+// The text ends: how many lines are counted, where it has the form.
+#[tactic(auto, unfolding(text::specs::internal::Scan::verdict))]
+pub fn finish(s: Scan) -> Option<usize>
     ensures { result ≡ verdict s }
 {
-    let place = s.place;
-    let has_form = at_sign(place);
-    Verdict {
-        has_form,
-        count: s.count,
+    match s.place {
+        Place::Sign => Some(s.count),
+        _ => None,
     }
 }

@@ -1,5 +1,5 @@
 -- A line printed and compared with the text that it was read from.
-use mathlib.Core.Bool.{Bool, false, true}
+use mathlib.Core.Bool.{Bool, false, false≢true, true}
 use mathlib.Core.List.{◌++◌, List}
 use mathlib.Core.Path.{ap, sym, ◌∙◌, ◌≡◌}
 use Prim.Native.Nat.{◌+◌, ℕ, ◌≤◌}
@@ -13,7 +13,12 @@ use Rattle.text.proofs.RecordLaws.{length-columns}
 use Rattle.text.specs.RecordTexts.{columns, line_at, line_of, numbered_line, numeral}
 use Rattle.text.specs.Text.{space}
 use Rattle.text.specs.declared.records.RecordLine.{RecordLine}
-use Rattle.text_records.specs.internal.Reads.{LineTold}
+use Rattle.text_records.specs.internal.Reads.{LineTold, print_at}
+use Rattle.std.specs.Prelude.{None, Some}
+use Rattle.std.specs.Cmp.Lexicographic.{pointwise}
+use Rattle.std.proofs.lemmas.Option.{none-some}
+use Rattle.std.proofs.lemmas.Slice.Eq.{bytes_eq-Decides}
+use lib.Dec.{eqb}
 
 -- what is printed from the start of a buffer stands there
 head-printed : {bytes before after : List ℕ} {r : ℕ} → Printed bytes 0 before after r → take r after ≡ bytes
@@ -35,14 +40,33 @@ module _ (q : ℕ) (t : List ℕ) {o₀ o₁ : List ℕ} {from : ℕ} (N : Print
     pub line-size : size ≤ length (numeral q ++ space) + 22
     line-size = omega (arith, C.end, N.end, length-columns line)
 
-    pub line-told : {fits : Bool} → (fits ≡ true → take size t ≡ take size o₂) →
-        (fits ≡ false → take size t ≡ take size o₂ → ⊥) →
-        LineTold q t (record { line = line; size = size; fits = fits })
-    line-told there other =
-        let print = ap (numbered_line q) own_line in
-        record {
-          line = own_line;
-          size = whole.end ∙ zero-add (length (numbered_line q line)) ∙ ap length print;
-          there = λ f. there f ∙ head-printed whole ∙ print;
-          other = λ f h. other f (h ∙ sym (head-printed whole ∙ print));
-        }
+    print : numbered_line q line ≡ print_at q t
+    print = ap (numbered_line q) own_line
+
+    -- the printed line, at the start of the buffer
+    printed : take size o₂ ≡ print_at q t
+    printed = head-printed whole ∙ print
+
+    module _ {r : Bool} (told : r ≡ pointwise eqb (take size o₂) (take (length (take size o₂)) t)) where
+      pub line-there : r ≡ true → LineTold q t (Some (record { line = line; size = size }))
+      line-there same =
+          let long = whole.end ∙ zero-add (length (numbered_line q line)) ∙ ap length print in
+          record {
+            there = record {
+              line = own_line;
+              size = long;
+              there = ap (λ k. take k t) (long ∙ ap length (sym printed))
+                  ∙ sym ((bytes_eq-Decides (take size o₂) (take (length (take size o₂)) t)).0 (sym told ∙ same))
+                  ∙ printed;
+            };
+            other = λ none. absurd (none-some _ (sym none));
+          }
+
+      pub line-other : r ≡ false → LineTold q t None
+      line-other differs =
+          record {
+            there = tt;
+            other = λ _ h. false≢true (sym differs ∙ told
+                ∙ (bytes_eq-Decides (take size o₂) (take (length (take size o₂)) t)).1
+                (printed ∙ sym h ∙ ap (λ k. take k t) (ap length (sym printed))));
+          }

@@ -7,6 +7,9 @@ use Prim.Native.Nat.{◌%◌, ◌+◌, ◌-◌, ◌<◌, ℕ, ◌≤◌}
 use native.Mathlib.Nat.{le_antisymm, mod-eq_of_lt, ne_of_lt}
 use native.Mathlib.Numerals.{add-one}
 use native.Mathlib.Omega.{arith}
+use lib.Dec.{eqb}
+use Rattle.std.specs.Cmp.Lexicographic.{pointwise}
+use Rattle.std.proofs.lemmas.Slice.Eq.{bytes_eq-Decides}
 use lib.ListN.{drop, length, length-append, length-drop, length-set, length-take, set, take}
 use lib.Seq.{drop_at, drop-drop, get_or-take, length-take-le, take-add, take_all, take-append_seam, take_at}
 use Rattle.buffers.proofs.Filling.{Filled, fill_start, fill_step}
@@ -33,9 +36,9 @@ use Rattle.text.specs.RecordTexts.{
 }
 use Rattle.text.specs.Text.{record_names, space}
 use Rattle.text.specs.declared.records.RecordLine.{RecordLine}
-use Rattle.text_records.specs.internal.Reads.{LineTold, TextTold}
+use Rattle.text_records.specs.internal.Reads.{LineTold, LineThere, TextTold}
+use Rattle.std.specs.Prelude.{None, Some}
 use Rattle.text_records.specs.declared.lines.ReadLine.{ReadLine}
-use Rattle.text_records.specs.declared.reading.ReadRecord.{ReadRecord}
 
 -- ---- the used word, a bit more
 marked : (n : ℕ) (f : ℕ → Bool) (r : ℕ) {b : Bool} → b ≡ f n → ((j : ℕ) → bit r j ≡ put (bit (word_of n f)) n b j) →
@@ -68,6 +71,14 @@ pub record Followed (t neighbours codes : List ℕ) (used count at : ℕ) : Type
   pub words : count ≤ 64 → Filled 64 (λ q. (line_read t q).word) neighbours count
   pub marks : count ≤ 64 → Filled 64 (λ q. (line_read t q).code) codes count
   pub used-word : count ≤ 64 → used ≡ word_of count (λ q. (line_read t q).used)
+
+-- the test of the names
+module _ (t : List ℕ) {r : Bool} (e : r ≡ pointwise eqb record_names (take 27 t)) where
+  pub names-there : r ≡ true → take 27 t ≡ record_names
+  names-there same = sym ((bytes_eq-Decides record_names (take 27 t)).0 (sym e ∙ same))
+
+  pub names-other : r ≡ false → take 27 t ≡ record_names → ⊥
+  names-other differs h = false≢true (sym differs ∙ e ∙ (bytes_eq-Decides record_names (take 27 t)).1 (sym h))
 
 module _ (t : List ℕ) where
   abbrev L : ℕ → RecordLine
@@ -121,13 +132,11 @@ module _ (t : List ℕ) where
       ))
     ]
 
-    module _ (l : at < length t) (r : ReadLine) (T : LineTold count (from_line t count) r) where
-      pub line-missing : r.fits ≡ false → record_form t ≡ false
-      line-missing e =
-          never_true (record_form t) (λ form. T.other e
-          (ap (λ k. take k (from_line t count)) T.size ∙ line-follows l form))
+    module _ (l : at < length t) where
+      pub line-missing : LineTold count (from_line t count) None → record_form t ≡ false
+      line-missing T = never_true (record_form t) (λ form. T.other refl (line-follows l form))
 
-      module _ (e : r.fits ≡ true) where
+      module _ (r : ReadLine) (T : LineThere count (from_line t count) r) where
         size-inside : at + r.size ≤ length t
         size-inside =
             omega (
@@ -135,7 +144,7 @@ module _ (t : List ℕ) where
               F.inside,
               l,
               T.size,
-              ap length (T.there e),
+              ap length (T.there),
               length-take r.size (from_line t count),
               ap length F.from,
               length-drop at t,
@@ -163,7 +172,7 @@ module _ (t : List ℕ) where
         unfolding from_line
         one-followed {used'} h =
             record {
-              upto = take-add at r.size t ∙ ap₂ ◌++◌ F.upto (ap (take r.size) F.from ∙ T.there e)
+              upto = take-add at r.size t ∙ ap₂ ◌++◌ F.upto (ap (take r.size) F.from ∙ T.there)
                   ∙ sym (text-more L count) ∙ ap (λ k. record_lines_text k L) (sym (add-one count));
               from = sym (drop-drop r.size at t) ∙ ap₂ drop T.size F.from
                   ∙ ap (from_line t) (sym (add-one count));
@@ -194,24 +203,19 @@ module _ (t : List ℕ) where
         (λ i k. get_or-take count array i 0 k ∙ P.done i k)
 
     pub all-followed : length t ≤ at →
-        TextTold t (record { form = true; count = count; neighbours = nb; codes = cs; used = used })
+        TextTold t (Some (record { count = count; neighbours = nb; codes = cs; used = used }))
     all-followed l =
         let O = own-lines t count (sym (take_all at t l) ∙ F.upto) in
         record {
           form = sym O.0;
-          count = λ _. sym O.1;
-          neighbours = λ _ few. part_filled _ nb few (F.words few);
-          codes = λ _ few. part_filled _ cs few (F.marks few);
-          used = λ _ few. F.used-word few;
+          lines = record {
+            count = sym O.1;
+            neighbours = λ few. part_filled _ nb few (F.words few);
+            codes = λ few. part_filled _ cs few (F.marks few);
+            used = λ few. F.used-word few;
+          };
         }
 
 -- a text without the form
-pub told_none : (t : List ℕ) (r : ReadRecord) → r.form ≡ false → record_form t ≡ false → TextTold t r
-told_none t r e h =
-    record {
-      form = e ∙ sym h;
-      count = λ z. absurd (false≢true (sym e ∙ z));
-      neighbours = λ z. absurd (false≢true (sym e ∙ z));
-      codes = λ z. absurd (false≢true (sym e ∙ z));
-      used = λ z. absurd (false≢true (sym e ∙ z));
-    }
+pub told_none : (t : List ℕ) → record_form t ≡ false → TextTold t None
+told_none t h = record { form = sym h; lines = tt }

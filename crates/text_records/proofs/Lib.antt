@@ -1,5 +1,4 @@
 pub mod Columns
 pub mod Comparing
 pub mod Following
-pub mod Starts
 pub mod Words

@@ -5,10 +5,10 @@ use mathlib.Core.Logic.{⊎_elim}
 use mathlib.Core.Path.{ap, ap₂, subst, sym, ◌∙◌, ◌≡◌}
 use Prim.Native.Nat.{◌<◌, ℕ, ◌≤◌}
 use native.Mathlib.Omega.{arith}
-use lib.Dec.{eqb, lit<}
+use lib.Dec.{eqb}
 use lib.ListN.{get_or, length}
 use borrow.Author.Tests.{eq-eqb, lt-ltb, ne_eqb}
-use Rattle.buffers.proofs.Lines.{first_below, fits}
+use Rattle.buffers.proofs.Lines.{fits}
 use Rattle.buffers.proofs.Tabulate.{tabulate-at, tabulate-length}
 use Rattle.buffers.specs.Refusals.{first_fitting, other_than}
 use Rattle.clifford.proofs.CliffordLaws.{code_of-lt}
@@ -62,13 +62,6 @@ module _ (l : GeneratorList) (nb cs out : List ℕ) (L : Lent l.n nb cs out) whe
 
     pub number_is : number ≡ first_fitting (check_lines l)
     number_is = R.number ∙ same_lines
-
-    -- a refusal has at most two digits
-    pub number_small : number < 100
-    number_small =
-        subst (λ k. k < 100) (sym R.number)
-        (first_below 100 (reduce_lines l nb cs) (lit< tt)
-        (lit< tt, (lit< tt, (lit< tt, (lit< tt, (lit< tt, (lit< tt, tt)))))))
 
     pub refused-printed : (number ≡ 0 → ⊥) → refused_text number ≡ list_answer l
     unfolding list_answer

@@ -12,7 +12,8 @@ use Rattle.stabilizer.specs.Lists.{GeneratorList}
 use Rattle.text.proofs.FormLaws.{list-unique}
 use Rattle.text.specs.internal.Scan.{Reading, begin, fed, as_reading, verdict}
 use Rattle.text.specs.Text.{HasForm, TextOf, lines_text, list_names, list_text, refused_text}
-use Rattle.text.specs.declared.scan.Verdict.{Verdict}
+use Rattle.std.specs.Prelude.{None, Option, Some}
+use Rattle.std.specs.Option.{is_some}
 use Rattle.text_replies.proofs.ReadTexts.{formed-answers, malformed-answers, says-form}
 use Rattle.calls.specs.ListAnswers.{AnswersList, list_read, list_answer}
 use Rattle.text_replies.specs.internal.Places.{ScanOf}
@@ -22,7 +23,7 @@ module _ (t : List ℕ) where
   abbrev whole : Reading
   whole = fed (as_reading begin (replicate 64 0) (replicate 64 0) (replicate 64 0)) t
 
-  abbrev judgement : Verdict
+  abbrev judgement : Option ℕ
   judgement = verdict whole.scan
 
   scan-of : ScanOf t judgement whole.signs whole.zs whole.xs
@@ -31,20 +32,20 @@ module _ (t : List ℕ) where
   module _ (answer : GeneratorList → List ℕ) where
     pub has-answer : ((l : GeneratorList) → 64 < l.n → answer l ≡ refused_text 2)
         → (bytes : List ℕ) × AnswersList answer t bytes
-    has-answer too_many = go judgement.has_form refl
+    has-answer too_many = go judgement refl
       where
-        go : (b : Bool) → judgement.has_form ≡ b → (bytes : List ℕ) × AnswersList answer t bytes
-        go true e =
-            (_, formed-answers t judgement whole.signs whole.zs whole.xs scan-of answer too_many e)
-        go false e = (_, malformed-answers t judgement whole.signs whole.zs whole.xs scan-of answer e)
+        go : (v : Option ℕ) → judgement ≡ v → (bytes : List ℕ) × AnswersList answer t bytes
+        go (Some n) e =
+            (_, formed-answers t judgement whole.signs whole.zs whole.xs scan-of answer too_many n e)
+        go None e = (_, malformed-answers t judgement whole.signs whole.zs whole.xs scan-of answer e)
 
     pub one_answer : (a b : List ℕ) → AnswersList answer t a → AnswersList answer t b → a ≡ b
-    one_answer a b A B = go judgement.has_form refl
+    one_answer a b A B = go (is_some judgement) refl
       where
-        form-said : (judgement.has_form ≡ true) ↔ HasForm t
+        form-said : (is_some judgement ≡ true) ↔ HasForm t
         form-said = says-form t judgement whole.signs whole.zs whole.xs scan-of
 
-        go : (v : Bool) → judgement.has_form ≡ v → a ≡ b
+        go : (v : Bool) → is_some judgement ≡ v → a ≡ b
         go true e = let h = form-said.0 e in A.formed h.0 h.1 ∙ sym (B.formed h.0 h.1)
         go false e =
             let none : HasForm t → ⊥ = λ h. true≢false (sym (form-said.1 h) ∙ e) in

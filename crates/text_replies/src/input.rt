@@ -5,7 +5,6 @@ ghost use Rattle.text_replies.specs.internal.Scanned.{Scanned, ScannedSoFar};
 
 use std::io;
 use std::io::Read;
-use text::scan::Verdict;
 use text_impl::blocks::{finish, scan_block, start};
 
 // Reads until the block is full or the input ends, and returns how many bytes it put at the start of the block. The only
@@ -14,6 +13,7 @@ pub fn read_full<R: Read>(input: &mut R, block: &mut [u8]) -> io::Result<usize>
     ensures { ReadsAtMost result block.new }
 {
     let mut done = 0;
+    // no range: each read says how far it came
     while done < block.len() {
         let got = input.read(&mut block[done..])?;
         if got == 0 {
@@ -31,7 +31,7 @@ pub fn read_list<R: Read>(
     signs: &mut [u8; 64],
     z: &mut [u64; 64],
     x: &mut [u64; 64],
-) -> io::Result<Verdict>
+) -> io::Result<Option<usize>>
     ensures ok { IfOk result (Scanned signs.old z.old x.old signs.new z.new x.new) }
     ensures err { OnErr result (ScannedSoFar signs.old z.old x.old signs.new z.new x.new) }
 {

@@ -3,14 +3,14 @@
 
 pub mod input;
 
-ghost use Rattle.std.specs.Prelude.{List, ◌≡◌, ℕ, ◌≤◌, min, length};
+ghost use Rattle.std.specs.Prelude.{List, ℕ, ◌≤◌, length};
 ghost use Rattle.buffers.specs.Writing.{Printed};
 ghost use Rattle.calls.specs.ListAnswers.{ListResponse, list_answer};
 ghost use Rattle.text_replies.specs.internal.Places.{Lent, ScanOf, list_at};
 ghost use Rattle.text_replies.specs.Places.{longest_record};
 
+use buffers::refusals::Refusal;
 use call_lists::reduce;
-use text::scan::Verdict;
 use text_impl::printing::{print_record, print_refusal};
 
 // Reduces a list and prints its record, or the refusal's number.
@@ -28,26 +28,18 @@ fn print_reduced(
         (list_answer (record { n = n; signs = signs.now; z = z.now; x = x.now }))
         0 out.old out.new result }
 {
-    let number = reduce(n as u64, signs, z, x, neighbours, codes);
-    if number != 0 {
-        return print_refusal(number, out);
+    match reduce(n as u64, signs, z, x, neighbours, codes) {
+        Ok(()) => print_record(n, neighbours, codes, 0, 0, out),
+        Err(refusal) => print_refusal(refusal, out),
     }
-    print_record(n, neighbours, codes, 0, 0, out)
-}
-
-// The number of places of the buffers that hold a list of n.
-fn places(n: usize) -> usize
-    ensures { result ≡ min n 64 }
-{
-    if n < 64 { n } else { 64 }
 }
 
 // Prints the answer to the list of n generators at the start of the buffers.
-fn list_answer(n: usize, signs: [u8; 64], z: [u64; 64], x: [u64; 64], out: &mut [u8]) -> usize
+fn list_answer(n: usize, signs: &[u8; 64], z: &[u64; 64], x: &[u64; 64], out: &mut [u8]) -> usize
     requires { longest_record ≤ length out.old }
-    ensures { Printed (list_answer (list_at n signs z x)) 0 out.old out.new result }
+    ensures { Printed (list_answer (list_at n signs.now z.now x.now)) 0 out.old out.new result }
 {
-    let m = places(n);
+    let m = n.min(64);
     let mut neighbours = [0u64; 64];
     let mut codes = [0u8; 64];
     print_reduced(
@@ -63,18 +55,18 @@ fn list_answer(n: usize, signs: [u8; 64], z: [u64; 64], x: [u64; 64], out: &mut 
 
 // Prints the answer to the text that was scanned, whatever text it was.
 pub fn list_reply(
-    verdict: Verdict,
-    signs: [u8; 64],
-    z: [u64; 64],
-    x: [u64; 64],
+    verdict: Option<usize>,
+    signs: &[u8; 64],
+    z: &[u64; 64],
+    x: &[u64; 64],
     out: &mut [u8],
 ) -> usize
     requires { longest_record ≤ length out.old }
-    ensures { (t : List ℕ) → ScanOf t verdict signs z x
+    ensures { (t : List ℕ) → ScanOf t verdict signs.now z.now x.now
         → ListResponse list_answer t out.old out.new result }
 {
-    if verdict.has_form {
-        return list_answer(verdict.count, signs, z, x, out);
+    match verdict {
+        Some(n) => list_answer(n, signs, z, x, out),
+        None => print_refusal(Refusal::Form, out),
     }
-    print_refusal(1, out)
 }

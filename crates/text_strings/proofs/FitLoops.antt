@@ -1,6 +1,6 @@
 -- Loops that test one place after another and keep whether all have passed; a line and a text by their tests.
 use mathlib.Core.Bool.{◌&&◌, Bool, false, true}
-use mathlib.Core.List.{List}
+use mathlib.Core.List.{List, [], ◌∷◌}
 use mathlib.Core.Logic.{inl, inr, ◌⊎◌}
 use mathlib.Core.Path.{ap, ap₂, refl, subst, sym, ◌∙◌, ◌≡◌}
 use Prim.Native.Nat.{◌*◌, ◌+◌, ◌-◌, ◌<◌, suc, zero-le, ℕ, ◌≤◌}
@@ -8,7 +8,8 @@ use native.Mathlib.Nat.{add-zero, eq-zero-or-pos, le_antisymm, mul-le-mul_right,
 use native.Mathlib.Numerals.{add-one}
 use native.Mathlib.Omega.{arith}
 use lib.Dec.{eqb}
-use lib.ListN.{get_or, length}
+use lib.ListN.{drop, get_or, length, take}
+use lib.Seq.{take_all}
 use borrow.Author.Tests.{eqb-false, eqb-true, ne_eqb}
 use Rattle.text.proofs.FirstLine.{first-letters, first-newline}
 use Rattle.text.proofs.StringsFormLaws.{form-lines, form-size, lines-form}
@@ -16,7 +17,7 @@ use Rattle.text.specs.Reading.{byte_at, is_letter, is_sign, line_count, line_fit
 use Rattle.text.specs.Strings.{text_size}
 use Rattle.words.proofs.Flags.{never_true, same-by-both}
 use Rattle.words.proofs.SearchLaws.{every-at, every_in}
-use Rattle.words.proofs.Sums.{last_or, lt-or-ge}
+use Rattle.words.proofs.Sums.{lt-or-ge}
 use Rattle.words.specs.Search.{every}
 
 -- whether each of the places below i passes
@@ -73,17 +74,6 @@ pub none_yet : (t : List ℕ) → NoneBefore t 1
 none_yet t = record { start = omega arith; inside = inl refl; none = λ k l h. absurd (omega arith) }
 
 module _ (t : List ℕ) {end : ℕ} (B : NoneBefore t end) where
-  pub one-passed : end < length t → (get_or t end 0 ≡ 10 → ⊥) → NoneBefore t (end + 1)
-  one-passed l h =
-      record {
-        start = omega arith;
-        inside = inr (omega arith);
-        none = λ k some b. elim (last_or {i = k} {n = end} (omega arith)) [
-          | inl e ↦ ap (λ i. eqb (get_or t i 0) 10) e ∙ ne_eqb (get_or t end 0) 10 h
-          | inr d ↦ B.none k some d
-        ];
-      }
-
   module _ (form : string_form t ≡ true) where
     -- the first line's newline does not stand before it
     not_behind : 0 < line_count t → suc (line_count t) < end → ⊥
@@ -122,3 +112,37 @@ module _ (t : List ℕ) {end : ℕ} (B : NoneBefore t end) where
       where
         long : (m : ℕ) → 0 < m → m + 2 ≤ text_size m
         long m some = subst (λ k. k ≤ m * (m + 2)) (one-mul (m + 2)) (mul-le-mul_right (m + 2) some)
+
+-- the bytes behind the first, up to their first newline
+pub first-line : (t : List ℕ) → 1 ≤ length t → (r : ℕ) → r ≤ length (take (length t - 1) (drop 1 t)) →
+    ((k : ℕ) → k < r → get_or (take (length t - 1) (drop 1 t)) k 0 ≡ 10 → ⊥) →
+    (r < length (take (length t - 1) (drop 1 t)) → get_or (take (length t - 1) (drop 1 t)) r 0 ≡ 10) →
+    string_form t ≡ true → r ≡ line_count t
+first-line [] l r within none found form = absurd (omega arith)
+first-line (b ∷ u) l r within none found form = elim (lt-or-ge (r + 1) (length (b ∷ u))) [
+  | inl more ↦ here ∙ newline-found (b ∷ u) B form more
+      (ap (λ i. get_or (b ∷ u) i 0) (add-one r) ∙ at r ∙ found (omega (arith, long, more)))
+  | inr all ↦ here ∙ newline-missing (b ∷ u) B form all
+]
+  where
+    rest : take (length (b ∷ u) - 1) u ≡ u
+    rest = take_all (length (b ∷ u) - 1) u (omega arith)
+
+    long : length (take (length (b ∷ u) - 1) u) ≡ length u
+    long = ap length rest
+
+    at : (k : ℕ) → get_or u k 0 ≡ get_or (take (length (b ∷ u) - 1) u) k 0
+    at k = ap (λ v. get_or v k 0) (sym rest)
+
+    here : r ≡ r + 1 - 1
+    here = omega arith
+
+    B : NoneBefore (b ∷ u) (r + 1)
+    B =
+        record {
+          start = omega arith;
+          inside = inr (omega (arith, within, long));
+          none = λ k some below. let one : k ≡ suc (k - 1) = omega arith in
+              ne_eqb (get_or (b ∷ u) k 0) 10 (λ e. none (k - 1) (omega arith)
+              (sym (at (k - 1)) ∙ sym (ap (λ i. get_or (b ∷ u) i 0) one) ∙ e));
+        }

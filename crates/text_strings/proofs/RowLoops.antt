@@ -140,8 +140,9 @@ module _ (t : List ℕ) (from q : ℕ) (some : 0 < q) where
   back : from + q ≡ from + suc (q - 1)
   back = omega arith
 
-  pub letter-fit : (n : ℕ) → LettersFit t from n → q ≤ n → is_letter (get_or t (from + q) 0) ≡ true
-  letter-fit n F l = ap (λ k. is_letter (get_or t k 0)) back ∙ F (q - 1) (omega arith)
+  pub letter-fit : (n : ℕ) → LettersFit t from n → q ≤ n → {at : ℕ} → at ≡ from + q →
+      is_letter (get_or t at 0) ≡ true
+  letter-fit n F l p = ap (λ k. is_letter (get_or t k 0)) (p ∙ back) ∙ F (q - 1) (omega arith)
 
   pub letter-read : (m : ℕ) {w : ℕ} → LettersRead m (bits_from z_bit t from) (bits_from x_bit t from) w q →
       {at r : ℕ} → at ≡ from + q → r ≡ 2 * w + bits_at t at →

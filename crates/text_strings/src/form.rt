@@ -1,33 +1,38 @@
 // The form of a text of Pauli strings, by position.
-ghost use Rattle.std.specs.Prelude.{true, ◌≡◌, suc, ◌+◌, ◌≤◌, eqb, get_or, length};
+ghost use Rattle.std.specs.Prelude.{true, ◌≡◌, ◌<◌, suc, ℕ, ◌+◌, ◌≤◌, eqb, get_or, length};
 ghost use Rattle.text.specs.Reading.{byte_at, is_letter, is_sign, line_count, line_fits, string_form};
 ghost use Rattle.text.specs.Strings.{text_size};
 ghost use Rattle.words.specs.Search.{every};
+
+// How many bytes come before the first newline, or all of them.
+fn before_newline(text: &[u8]) -> usize
+    ensures within { result ≤ length text.now }
+    ensures before { (k : ℕ) → k < result → get_or text.now k 0 ≡ 10 → ⊥ }
+    ensures found { result < length text.now → get_or text.now result 0 ≡ 10 }
+{
+    text.iter().position(|&b| b == b'\n').unwrap_or(text.len())
+}
 
 // How many letters the first line has, up to the first newline behind its first byte.
 pub fn letter_count(text: &[u8]) -> usize
     ensures { string_form text.now ≡ true → result ≡ line_count text.now }
 {
-    let mut end = 1;
-    while end < text.len() {
-        if text[end] == 10 {
-            return end - 1;
-        }
-        end += 1;
+    match text {
+        [] => 0,
+        [_, behind @ ..] => before_newline(behind),
     }
-    end - 1
 }
 
 fn is_sign(b: u8) -> bool
     ensures { result ≡ is_sign b }
 {
-    (b == 43) | (b == 45)
+    matches!(b, b'+' | b'-')
 }
 
 fn is_letter(b: u8) -> bool
     ensures { result ≡ is_letter b }
 {
-    ((b == 73) | (b == 88)) | ((b == 89) | (b == 90))
+    matches!(b, b'I' | b'X' | b'Y' | b'Z')
 }
 
 // Whether the n bytes behind a place are letters.
@@ -36,10 +41,8 @@ fn letters_fit(text: &[u8], from: usize, n: usize) -> bool
     ensures { result ≡ every n (λ q. is_letter (get_or text.now (from + suc q) 0)) }
 {
     let mut fit = true;
-    let mut q = 0;
-    while q < n {
+    for q in 0..n {
         fit = fit & is_letter(text[from + (q + 1)]);
-        q += 1;
     }
     fit
 }
@@ -49,7 +52,7 @@ fn line_fits(text: &[u8], from: usize, n: usize) -> bool
     requires { from + (n + 2) ≤ length text.now }
     ensures { result ≡ line_fits n (λ c. get_or text.now (from + c) 0) }
 {
-    is_sign(text[from]) & (letters_fit(text, from, n) & (text[from + (n + 1)] == 10))
+    is_sign(text[from]) & (letters_fit(text, from, n) & (text[from + (n + 1)] == b'\n'))
 }
 
 // Whether each of n lines fits.
@@ -59,11 +62,9 @@ fn lines_fit(text: &[u8], n: usize) -> bool
 {
     let mut fit = true;
     let mut from = 0;
-    let mut j = 0;
-    while j < n {
+    for _ in 0..n {
         fit = fit & line_fits(text, from, n);
         from += n + 2;
-        j += 1;
     }
     fit
 }
@@ -72,10 +73,7 @@ fn lines_fit(text: &[u8], n: usize) -> bool
 fn has_size(length: usize, n: usize) -> bool
     ensures { result ≡ eqb length (text_size n) }
 {
-    if 0xFFFF_FFFF < n {
-        return false;
-    }
-    length == n * (n + 2)
+    n <= 0xFFFF_FFFF && length == n * (n + 2)
 }
 
 // Whether a text has the form, which has n lines if so.
@@ -83,9 +81,5 @@ pub fn string_form(text: &[u8], n: usize) -> bool
     requires { string_form text.now ≡ true → n ≡ line_count text.now }
     ensures { result ≡ string_form text.now }
 {
-    if has_size(text.len(), n) {
-        lines_fit(text, n)
-    } else {
-        false
-    }
+    has_size(text.len(), n) && lines_fit(text, n)
 }

@@ -11,21 +11,22 @@ use pauli::{Letter, letter_of};
 use text_impl::printing::put;
 use words::has;
 
+// No `From`: it stands in the crate of the type, `pauli`, and texts are no part of that.
 fn letter_byte(l: Letter) -> u8
     ensures { result ≡ letter_byte l }
 {
     match l {
-        Letter::I => 73,
-        Letter::X => 88,
-        Letter::Y => 89,
-        Letter::Z => 90,
+        Letter::I => b'I',
+        Letter::X => b'X',
+        Letter::Y => b'Y',
+        Letter::Z => b'Z',
     }
 }
 
 fn sign_byte(minus: bool) -> u8
     ensures { result ≡ sign_byte minus }
 {
-    if minus { 45 } else { 43 }
+    if minus { b'-' } else { b'+' }
 }
 
 // The letters of the first n qubits.
@@ -34,10 +35,8 @@ fn put_letters(n: usize, z: u64, x: u64, at: usize, out: &mut [u8]) -> usize
     ensures { Printed (tabulate n (λ q. letter_byte (letter (bit z q) (bit x q)))) at
         out.old out.new result }
 {
-    let mut q = 0;
-    while q < n {
+    for q in 0..n {
         out[at + q] = letter_byte(letter_of(has(z, q), has(x, q)));
-        q += 1;
     }
     at + n
 }
@@ -49,7 +48,7 @@ fn put_string(n: usize, sign: u8, z: u64, x: u64, at: usize, out: &mut [u8]) -> 
 {
     let letters = put(sign_byte(sign % 2 == 1), at, out);
     let end = put_letters(n, z, x, letters, out);
-    put(10, end, out)
+    put(b'\n', end, out)
 }
 
 // The text of a list fills the buffer.
@@ -64,9 +63,7 @@ pub fn put_strings(n: usize, signs: &[u8], z: &[u64], x: &[u64], out: &mut [u8])
     })) }
 {
     let mut at = 0;
-    let mut j = 0;
-    while j < n {
+    for j in 0..n {
         at = put_string(n, signs[j], z[j], x[j], at, out);
-        j += 1;
     }
 }

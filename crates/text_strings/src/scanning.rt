@@ -54,14 +54,12 @@ fn string_row(text: &[u8], from: usize, n: usize) -> Generator
     let half = n / 2;
     let mut low = 0;
     let mut high = odd_letter(text, from, n);
-    let mut q = half;
-    while 0 < q {
-        low = more_letters(low, text[from + q]);
-        high = more_letters(high, text[from + (half + q)]);
-        q -= 1;
+    for q in (0..half).rev() {
+        low = more_letters(low, text[from + (q + 1)]);
+        high = more_letters(high, text[from + (half + (q + 1))]);
     }
     Generator {
-        minus: text[from] == 45,
+        minus: text[from] == b'-',
         z: joined(low % 0x1_0000_0000, high % 0x1_0000_0000, half),
         x: joined(low / 0x1_0000_0000, high / 0x1_0000_0000, half),
     }
@@ -86,14 +84,12 @@ pub fn read_rows(text: &[u8], n: usize) -> ReadList
     let mut z = [0u64; 64];
     let mut x = [0u64; 64];
     let mut from = 0;
-    let mut j = 0;
-    while j < n {
+    for j in 0..n {
         let row = string_row(text, from, n);
         signs[j] = sign_digit(row.minus);
         z[j] = row.z;
         x[j] = row.x;
         from += n + 2;
-        j += 1;
     }
     ReadList { signs, z, x }
 }

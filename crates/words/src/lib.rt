@@ -14,7 +14,7 @@ pub fn mask(n: usize) -> u64
     requires { (1 ≤ n) × (n ≤ 64) }
     ensures { result ≡ 2 ^ n - 1 }
 {
-    0xFFFF_FFFF_FFFF_FFFF >> (64 - n)
+    u64::MAX >> (64 - n)
 }
 
 // Whether w has a bit at or above n.
@@ -37,14 +37,14 @@ pub fn has(w: u64, q: usize) -> bool
 pub fn bit_at(w: u64, q: u64) -> bool
     ensures { result ≡ bit w q }
 {
-    if q < 64 { has(w, q as usize) } else { false }
+    q < 64 && has(w, q as usize)
 }
 
 // The bits that w has not.
 pub fn others(w: u64) -> u64
     ensures { result ≡ word_of 64 (λ q. not (bit w q)) }
 {
-    w ^ 0xFFFF_FFFF_FFFF_FFFF
+    !w
 }
 
 // The word with bit q alone.
@@ -76,11 +76,7 @@ pub fn put_bit(w: u64, q: usize, b: bool) -> u64
     requires { q < 64 }
     ensures { (j : ℕ) → bit result j ≡ put (bit w) q b j }
 {
-    if has(w, q) {
-        if b { w } else { flip(w, q) }
-    } else {
-        if b { flip(w, q) } else { w }
-    }
+    if has(w, q) == b { w } else { flip(w, q) }
 }
 
 // The word where b is true, else no bit.
@@ -94,14 +90,14 @@ pub fn where_true(b: bool, word: u64) -> u64
 pub fn count(w: u64) -> u64
     ensures { (result ≡ ones w) × (result ≤ 64) }
 {
-    u64::count_ones(w) as u64
+    w.count_ones() as u64
 }
 
 // Whether the number of ones is odd.
 pub fn odd(w: u64) -> bool
     ensures { result ≡ is_odd (ones w) }
 {
-    u64::count_ones(w) % 2 == 1
+    w.count_ones() % 2 == 1
 }
 
 // Whether the places where both words have a 1 are odd in number.
@@ -115,7 +111,7 @@ pub fn dot_product(a: u64, b: u64) -> bool
 pub fn smallest(w: u64) -> usize
     ensures { (result ≡ count_trailing_zeros 64 w) × (result ≤ 64) }
 {
-    u64::trailing_zeros(w) as usize
+    w.trailing_zeros() as usize
 }
 
 // w without its smallest set bit: sooner there than a flip, which waits for the number of the bit.
@@ -131,5 +127,5 @@ pub fn largest(w: u64) -> usize
     requires { w ≡ 0 → ⊥ }
     ensures { (bit w result ≡ true) × (w < 2 ^ (result + 1)) }
 {
-    63 - u64::leading_zeros(w) as usize
+    63 - w.leading_zeros() as usize
 }

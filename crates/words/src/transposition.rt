@@ -28,18 +28,14 @@ fn exchange(rows: &mut [u64; 64], m: usize, s: usize, low: u64)
     if m <= s {
         return;
     }
-    let mut block = 0;
-    while block < m {
-        let mut k = block;
-        while k < block + s {
+    for block in (0..m).step_by(2 * s) {
+        for k in block..block + s {
             let a = rows[k];
             let b = rows[k + s];
             let d = ((a >> s) ^ b) & low;
             rows[k] = a ^ (d << s);
             rows[k + s] = b ^ d;
-            k += 1;
         }
-        block += 2 * s;
     }
 }
 

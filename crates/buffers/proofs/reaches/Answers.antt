@@ -2,17 +2,17 @@
 use Rattle.buffers.proofs.Reaching.{some-all, some-here, some-yet}
 use Rattle.buffers.proofs.reaches.Goals as goal
 
-pub loop-i-init : goal.loop-i-init
-loop-i-init c = some-yet c.args.b c.args.buffer.now
+pub loop-value-init : goal.loop-value-init
+loop-value-init c = some-yet c.args.b c.args.buffer.now
 
-pub loop-i-preserved : goal.loop-i-preserved
-loop-i-preserved c =
+pub loop-value-preserved : goal.loop-value-preserved
+loop-value-preserved c =
     let a = c.args in
-    some-here a.b a.buffer.now c.loop-i.found c.loop-i.i
-    c.loop-i.invariant c.loop-i-test.true
+    some-here a.b a.buffer.now c.loop-value.found c.loop-value.value-index
+    c.loop-value.invariant c.loop-value-test.true
 
 pub returns : goal.returns
 returns c =
     let a = c.args in
-    some-all a.b a.buffer.now c.loop-i.found c.loop-i.i
-    c.loop-i.invariant c.loop-i-test.false
+    some-all a.b a.buffer.now c.loop-value.found c.loop-value.value-index
+    c.loop-value.invariant c.loop-value-test.false

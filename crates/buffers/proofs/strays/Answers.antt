@@ -5,20 +5,20 @@ use lib.Dec.{leb}
 use Rattle.buffers.proofs.Reaching.{some-all, some-here-or, some-yet-or}
 use Rattle.buffers.proofs.strays.Goals as goal
 
-pub loop-i-init : goal.loop-i-init
-loop-i-init c = some-yet-or c.args.n c.args.buffer.now
+pub loop-word-init : goal.loop-word-init
+loop-word-init c = some-yet-or c.args.n c.args.buffer.now
 
-pub loop-i-preserved : goal.loop-i-preserved
-loop-i-preserved c =
-    let inside = c.before.before in
+pub loop-word-preserved : goal.loop-word-preserved
+loop-word-preserved c =
+    let inside = c in
     let a = inside.args in
-    some-here-or a.n a.buffer.now inside.loop-i.all inside.loop-i.i
-    inside.loop-i.invariant inside.loop-i-test.true
+    some-here-or a.n a.buffer.now inside.loop-word.all inside.loop-word.word-index
+    inside.loop-word.invariant inside.loop-word-test.true
 
 pub returns : goal.returns
 returns c =
-    let outside = c.before.before in
+    let outside = c in
     let a = outside.args in
     c.stray.ensures
-    ∙ some-all (2 ^ a.n) a.buffer.now (leb (2 ^ a.n) outside.loop-i.all) outside.loop-i.i
-    outside.loop-i.invariant outside.loop-i-test.false
+    ∙ some-all (2 ^ a.n) a.buffer.now (leb (2 ^ a.n) outside.loop-word.all) outside.loop-word.word-index
+    outside.loop-word.invariant outside.loop-word-test.false

@@ -1,55 +1,38 @@
 -- `measure` meets its contract: a Pauli measured at a qubit of the party, whose vertices are reduced.
-use mathlib.Core.Path.{◌≡◌, refl}
-use Rattle.buffers.specs.Refusals.{first_fitting}
+use mathlib.Core.Path.{refl}
+use Rattle.std.proofs.Common.{rules}
 use Rattle.buffers.proofs.Calling.{refused}
-use Rattle.parties.specs.PartyLines.{names_other}
-use Rattle.parties.specs.Masks.{in_party}
+use Rattle.buffers.proofs.RefusalLaws.{passed_on}
 use Rattle.parties.specs.internal.Apart.{measure-op}
 use Rattle.operations.specs.Steps.{Operation, measurement_of}
 use Rattle.operations.specs.Used.{UsedRecord, used_record}
 use Rattle.parties_impl.proofs.EarlyNumbers.{early-admitted, early-refused, other-as}
-use Rattle.parties_impl.specs.internal.BeforeEight.{before_eight, six_of}
-use Rattle.call_parties.proofs.measure.Lts as lts
-use Rattle.call_parties.proofs.measure.Reads as reads
-use Rattle.call_parties.proofs.measure.Tie as tie
+use Rattle.parties_impl.specs.internal.BeforeEight.{six_of}
 use Rattle.call_parties.proofs.measure.Goals as goal
 
--- where the lemmas below stand
-abbrev AfterPartyRefusalEarly : Type 0
-AfterPartyRefusalEarly = lts.After-party_refusal tie.the-claims reads.Pre reads.Post tie.handed_clauses
+pub returns-in_err-party_refusal : goal.returns-in_err-party_refusal
+returns-in_err-party_refusal c =
+    let a = c.args in
+    let u : UsedRecord = used_record a.n a.neighbours.now a.codes.now a.used.now in
+    let o : Operation = measurement_of a.pauli a.qubit a.outcome in
+    let R = passed_on _ _ c.from_residual.ensures.1 c.in_err-party_refusal.ensures in
+    let early = other-as a.word a.party u (six_of o) R.0 c.outside-other.ensures in
+    refused _ (early-refused a.word a.party u o (measure-op _ _ _) early R.1) R.1
+    (refl, (refl, (refl, (refl, (refl, tt)))))
 
-abbrev Start : Type 0
-Start = lts.Start tie.the-claims reads.Pre reads.Post tie.handed_clauses
+pub measured_within-requires-clause-apart : goal.measured_within-requires-clause-apart
+measured_within-requires-clause-apart c =
+    let a = c.args in
+    let u : UsedRecord = used_record a.n a.neighbours.now a.codes.now a.used.now in
+    let o : Operation = measurement_of a.pauli a.qubit a.outcome in
+    let early = other-as a.word a.party u (six_of o) c.in_ok-party_refusal.ensures c.outside-other.ensures in
+    (early-admitted a.word a.party u o early refl).apart
 
--- the record that is lent
-abbrev lent : Start → UsedRecord
-lent S = used_record S.args.n S.args.neighbours.now S.args.codes.now S.args.used.now
-
-abbrev asked : Start → Operation
-asked S = measurement_of S.args.pauli S.args.qubit S.args.outcome
-
--- the number of the lines before 8
-number : (E : AfterPartyRefusalEarly) → let S = E.before.before.before.before.before in
-    E.party_refusal-early.result ≡ first_fitting (before_eight S.args.word S.args.party (lent S) (six_of (asked S))
-    (names_other (in_party S.args.word S.args.party) S.args.n (asked S)))
-number E =
-    let S = E.before.before.before.before.before in
-    other-as S.args.word S.args.party (lent S) (six_of (asked S)) E.party_refusal-early.ensures
-    E.outside-other.ensures
-
-pub returns-then-early-ne0 : goal.returns-then-early-ne0
-returns-then-early-ne0 c =
-    let E = c.before in
-    let S = E.before.before.before.before.before in
-    refused _ (early-refused S.args.word S.args.party (lent S) (asked S) (measure-op _ _ _)
-    (number E) c.if-early-ne0.true)
-    c.if-early-ne0.true (refl, (refl, (refl, (refl, (refl, tt)))))
-
-pub measure_within-requires : goal.measure_within-requires
-measure_within-requires c =
-    let E = c.before.before.before.before.before.before.before.before.before in
-    let S = E.before.before.before.before.before in record {
-      admitted = early-admitted S.args.word S.args.party (lent S) (asked S)
-          (number E) c.if-early-ne0.false;
-      words_len = (refl {a = 64}, refl {a = 64});
-    }
+pub returns : goal.returns
+returns c =
+    let a = c.args in
+    let u : UsedRecord = used_record a.n a.neighbours.now a.codes.now a.used.now in
+    let o : Operation = measurement_of a.pauli a.qubit a.outcome in
+    let early = other-as a.word a.party u (six_of o) c.in_ok-party_refusal.ensures c.outside-other.ensures in
+    c.measured_within.ensures.measured _ _ _ (early-admitted a.word a.party u o early refl)
+    (λ w b own x y r w' b' own' x' y' p. search rules)

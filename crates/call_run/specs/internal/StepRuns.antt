@@ -1,5 +1,5 @@
 -- What the run of a step promises. A name with a prime is what the buffer, or the lent number, holds at exit.
-use Rattle.std.specs.Prelude.{Bool, cond, false, true, List, ◌≡◌, ◌<◌, ℕ, eqb}
+use Rattle.std.specs.Prelude.{Bool, cond, false, true, List, ◌≡◌, ℕ, eqb}
 use Rattle.call_run.specs.internal.Waiting.{held_in, meant, meant_record}
 use Rattle.calls.specs.InPlace.{used_call}
 use Rattle.buffers.specs.Calls.{Call}
@@ -63,10 +63,3 @@ pub record WaitedStep (waiting : Bool) (u : UsedRecord) (s : Step) (r : Answer) 
 pub record NoOutcome (r : Answer) : Type 0 where
   pub outcome : r.outcome ≡ 0
   pub determined : r.determined ≡ 0
-
--- no measurement and no renewal, and of a gate the value is a code
-pub record Rewriting (op : Op) (value : ℕ) : Type 0 where
-  pub code : op ≡ Gate → value < 24
-  pub no-measure : op ≡ Measure → ⊥
-  pub no-observe : op ≡ Observe → ⊥
-  pub no-renew : op ≡ Renew → ⊥

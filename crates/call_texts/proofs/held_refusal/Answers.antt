@@ -2,35 +2,17 @@
 use mathlib.Core.Path.{◌∙◌, sym}
 use lib.ListN.{take}
 use Rattle.buffers.proofs.Parts.{part-long}
-use Rattle.operations.specs.Used.{UsedRecord}
+use Rattle.operations.specs.Used.{used_record}
 use Rattle.operations_checks.proofs.UsedNumbers.{no-further}
 use Rattle.stabilizer.proofs.SharedTests.{counted}
 use Rattle.call_texts.proofs.ReadCalls.{two}
-use Rattle.call_texts.proofs.held_refusal.Lts as lts
-use Rattle.call_texts.proofs.held_refusal.Reads as reads
-use Rattle.call_texts.proofs.held_refusal.Tie as tie
 use Rattle.call_texts.proofs.held_refusal.Goals as goal
-
--- where the lemmas below stand
-abbrev Start : Type 0
-Start = lts.Start tie.the-claims reads.Pre reads.Post
-
--- the record in the first n places
-abbrev lent : Start → UsedRecord
-lent S =
-    record {
-      held = record {
-        n = S.args.n;
-        neighbours = take S.args.n S.args.neighbours.now;
-        codes = take S.args.n S.args.codes.now;
-      };
-      used = S.args.used;
-    }
 
 pub returns-then-bad_count : goal.returns-then-bad_count
 returns-then-bad_count c =
-    let S = c.before.before.before.before.before in
-    two (lent S) S.args.others (sym c.bad_count.ensures ∙ c.if-bad_count.true)
+    let a = c.args in
+    two (used_record a.n (take a.n a.neighbours.now) (take a.n a.codes.now) a.used) a.others
+    (sym c.bad_count.ensures ∙ c.if-bad_count.true)
 
 pub slice_bounds-used_refusal-end : goal.slice_bounds-used_refusal-end
 slice_bounds-used_refusal-end c =
@@ -44,5 +26,5 @@ slice_bounds-used_refusal-end-2 c =
 
 pub returns : goal.returns
 returns c =
-    let S = c.before.before.before.before.before.before in
-    no-further (lent S) _ _ c.used_refusal.ensures
+    let a = c.args in
+    no-further (used_record a.n (take a.n a.neighbours.now) (take a.n a.codes.now) a.used) _ _ c.used_refusal.ensures

@@ -1,42 +1,25 @@
 -- `write_record` meets its contract: the text of a record, and how many bytes it has.
-use Rattle.operations.specs.Used.{UsedRecord, used_record}
+use mathlib.Core.Path.{refl}
+use Rattle.buffers.proofs.RefusalLaws.{passed_on}
+use Rattle.operations.specs.Used.{used_record}
 use Rattle.call_texts.proofs.WriteCalls.{write_done, write-refused, write-room}
-use Rattle.call_texts.proofs.write_record.Lts as lts
-use Rattle.call_texts.proofs.write_record.Reads as reads
-use Rattle.call_texts.proofs.write_record.Tie as tie
 use Rattle.call_texts.proofs.write_record.Goals as goal
 
--- where the lemmas below stand
-abbrev AfterUsedRefusalEarly : Type 0
-AfterUsedRefusalEarly = lts.After-used_refusal tie.the-claims reads.Pre reads.Post
-
-abbrev Start : Type 0
-Start = lts.Start tie.the-claims reads.Pre reads.Post
-
--- the record that is lent
-abbrev lent : Start → UsedRecord
-lent S = used_record S.args.n S.args.neighbours.now S.args.codes.now S.args.used
-
-abbrev at : AfterUsedRefusalEarly → Start
-at E = E.before.before.before.before.before
-
-pub returns-then-early-ne0 : goal.returns-then-early-ne0
-returns-then-early-ne0 c =
-    let E = c.before.before in
-    let a = (at E).args in
-    write-refused (lent (at E)) a.text.now a.size.now _ E.other_than-others.ensures _
-    E.used_refusal-early.ensures c.if-early-ne0.true
+pub returns-in_err-used_refusal : goal.returns-in_err-used_refusal
+returns-in_err-used_refusal c =
+    let a = c.args in
+    let R = passed_on _ _ c.from_residual.ensures.1 c.in_err-used_refusal.ensures in
+    write-refused (used_record a.n a.neighbours.now a.codes.now a.used) a.text.now a.size.now _
+    c.other_than-others.ensures _ R.0 R.1
 
 pub print_record-end-requires : goal.print_record-end-requires
 print_record-end-requires c =
-    let E = c.before.before.before in
-    let a = (at E).args in
-    write-room (lent (at E)) a.text.now a.size.now _ E.other_than-others.ensures _
-    E.used_refusal-early.ensures c.if-early-ne0.false
+    let a = c.args in
+    write-room (used_record a.n a.neighbours.now a.codes.now a.used) a.text.now a.size.now _
+    c.other_than-others.ensures _ c.in_ok-used_refusal.ensures refl
 
 pub returns : goal.returns
 returns c =
-    let E = c.before.before.before.before.before.before in
-    let a = (at E).args in
-    write_done (lent (at E)) a.text.now a.size.now _ E.other_than-others.ensures _
-    E.used_refusal-early.ensures c.if-early-ne0.false c.print_record-end.ensures
+    let a = c.args in
+    write_done (used_record a.n a.neighbours.now a.codes.now a.used) a.text.now a.size.now _
+    c.other_than-others.ensures _ c.in_ok-used_refusal.ensures refl c.print_record-end.ensures

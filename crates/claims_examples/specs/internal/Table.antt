@@ -81,7 +81,7 @@ table =
     -- one qubit, code 8: refusal 11; code 4: refusal 12
     ∷ example (image_number (record_with 1 (0 ∷ []) (8 ∷ []))) (11 ∷ [])
     ∷ example (image_number (record_with 1 (0 ∷ []) (4 ∷ []))) (12 ∷ [])
-    -- of the request on products: XY = i_z, YX = -i_z; of two qubits with the rows XI, -YI
+    -- of the request on products: XY = iZ, YX = -iZ; of two qubits with the rows XI, -YI
     ∷ example (multiplies (list_in 2 (0 ∷ 0 ∷ []) (0 ∷ 1 ∷ []) (1 ∷ 1 ∷ [])) 3) (0 ∷ 1 ∷ 0 ∷ 1 ∷ [])
     ∷ example (multiplies (list_in 2 (0 ∷ 0 ∷ []) (1 ∷ 0 ∷ []) (1 ∷ 1 ∷ [])) 3) (0 ∷ 1 ∷ 0 ∷ 3 ∷ [])
     ∷ example (multiplies (list_in 2 (0 ∷ 1 ∷ []) (0 ∷ 1 ∷ []) (1 ∷ 1 ∷ [])) 3) (0 ∷ 1 ∷ 0 ∷ 3 ∷ [])

@@ -3,13 +3,11 @@
 use mathlib.Core.Path.{subst, sym}
 use native.Mathlib.Omega.{arith}
 use lib.ListN.{replicate}
-use borrow.Author.Tests.{not-false, not-true}
 use Rattle.comparison.proofs.NextChoice.{zeros-codes}
 use Rattle.comparison.proofs.TableEnds.{empty-rows}
 use Rattle.record.specs.Graph.{Simple}
 use Rattle.record.specs.NeighbourWords.{graph_in}
 use Rattle.comparison_parts.proofs.Parting.{all-answer, next-component, none-answer, progress_start, progress_step, rest-falls, vertex-in-buffer}
-use Rattle.comparison_parts.specs.internal.Components.{ComponentAnswer, record_held}
 use Rattle.comparison_parts.proofs.compare_parts.Goals as goal
 
 pub loop-rest-init : goal.loop-rest-init
@@ -33,8 +31,8 @@ part-component-requires c =
       simple = subst (λ m. Simple m (graph_in a.neighbours.now)) (sym F.neighbours-long) F.simple;
     }
 
-pub compare_component-whole-requires : goal.compare_component-whole-requires
-compare_component-whole-requires c =
+pub compare_component-requires : goal.compare_component-requires
+compare_component-requires c =
     let a = c.args in record {
       sound_pair = c.requires.1;
       component = (
@@ -45,16 +43,14 @@ compare_component-whole-requires c =
       );
     }
 
-pub returns-then-not-whole : goal.returns-then-not-whole
-returns-then-not-whole c =
+pub returns-in_err-compare_component : goal.returns-in_err-compare_component
+returns-in_err-compare_component c =
     let a = c.args in
-    none-answer a.n a.neighbours.now a.codes.now a.neighbours2.now a.codes2.now c.requires.1
+    rw c.from_residual.ensures
+    (none-answer a.n a.neighbours.now a.codes.now a.neighbours2.now a.codes2.now c.requires.1
     c.loop-rest.rest c.loop-rest.choice c.loop-rest.invariant.0
     c.loop-rest-test.true _ c.smallest-q.ensures.0 _ c.part-component.ensures _
-    (subst (λ f. ComponentAnswer a.n (record_held a.n a.neighbours.now a.codes.now)
-    (record_held a.n a.neighbours2.now a.codes2.now) c.part-component.result c.loop-rest.choice f
-    c.compare_component-whole.result.choice) (not-true _ c.if-not-whole.true)
-    c.compare_component-whole.ensures.component_answer)
+    c.in_err-compare_component.ensures.component_answer)
 
 pub loop-rest-smaller : goal.loop-rest-smaller
 loop-rest-smaller c =
@@ -69,11 +65,8 @@ loop-rest-preserved c =
       progress_step a.n a.neighbours.now a.codes.now a.neighbours2.now a.codes2.now c.requires.1
           c.loop-rest.rest c.loop-rest.choice c.loop-rest.invariant.0
           c.loop-rest-test.true _ c.smallest-q.ensures.0 _ c.part-component.ensures _
-          (subst (λ f. ComponentAnswer a.n (record_held a.n a.neighbours.now a.codes.now)
-          (record_held a.n a.neighbours2.now a.codes2.now) c.part-component.result c.loop-rest.choice f
-          c.compare_component-whole.result.choice) (not-false _ c.if-not-whole.false)
-          c.compare_component-whole.ensures.component_answer),
-      c.compare_component-whole.ensures.empty_from,
+          c.in_ok-compare_component.ensures.component_answer,
+      c.in_ok-compare_component.ensures.empty_from,
     )
 
 pub returns : goal.returns

@@ -1,11 +1,13 @@
 -- `search_records` meets its contract: the least choice that carries the group of the first record onto that of the
 -- second, by a table without equations, which it leaves so.
+use mathlib.Core.List.{[]}
+use Rattle.std.specs.Option.{is_some, unwrap_or}
 use Rattle.comparison.specs.internal.Setting.{generators_in}
 use Rattle.comparison.proofs.ComparedRecords.{records-answer, records-setting}
 use Rattle.comparison_search.proofs.search_records.Goals as goal
 
-pub least_choice-answer-requires : goal.least_choice-answer-requires
-least_choice-answer-requires c =
+pub least_choice-requires : goal.least_choice-requires
+least_choice-requires c =
     let a = c.args in record {
       setting = records-setting a.n c.requires.n_bound.0 a.neighbours.now a.codes.now a.neighbours2.now
           a.codes2.now c.requires.n_bound.1 c.requires.sound_record.0 (generators_in c.generators.new.rows)
@@ -20,7 +22,7 @@ returns c =
       least_answer = records-answer a.n c.requires.n_bound.0 a.neighbours.now a.codes.now a.neighbours2.now
           a.codes2.now c.requires.n_bound.1 c.requires.sound_record.0 (generators_in c.generators.new.rows)
           (generators_in c.generators-2.new.rows) c.inverses-frame.result c.generators.ensures
-          c.generators-2.ensures c.least_choice-answer.result.found c.least_choice-answer.result.choice
-          c.least_choice-answer.ensures.least_answer;
-      empty_from_2 = c.least_choice-answer.ensures.empty_from_2;
+          c.generators-2.ensures (is_some c.least_choice.result) (unwrap_or c.least_choice.result [])
+          c.least_choice.ensures.least_answer;
+      empty_from_2 = c.least_choice.ensures.empty_from_2;
     }

@@ -1,6 +1,5 @@
 -- `cut_rank` meets its contract: the rank modulo 2 of the edges between the sides: a column that is no sum of earlier
 -- ones leaves a remainder, which joins the basis.
-use native.Mathlib.Omega.{arith}
 use borrow.Author.Rules.{rules}
 use Rattle.record.specs.NeighbourWords.{graph_in}
 use Rattle.buffers.proofs.Mapping.{zeros}
@@ -32,9 +31,6 @@ bounds-basis-smallest c =
     place-below c.args.n c.requires.n_bound.0 M _ _ _ c.loop-k.invariant c.loop-k-test.true _
     below c.crossing_column-column.ensures _ c.remainder-rest.ensures c.if-rest-ne0.true _
     c.smallest.ensures.0
-
-pub overflow_add-rank : goal.overflow_add-rank
-overflow_add-rank c = omega (arith, c.loop-k.invariant.few)
 
 pub loop-k-preserved : goal.loop-k-preserved
 loop-k-preserved c =

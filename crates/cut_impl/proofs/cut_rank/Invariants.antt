@@ -1,5 +1,4 @@
 -- What the loops of `cut_rank` keep.
-use Prim.Native.Nat.{◌-◌}
 use Rattle.record.specs.NeighbourWords.{graph_in}
 use Rattle.cut.specs.Cut.{crossing}
 use Rattle.words.specs.Bits.{bit}
@@ -8,6 +7,3 @@ use Rattle.cut_impl.proofs.cut_rank.Given as goal
 
 abbrev pub invariant-loop-k : goal.invariant-loop-k
 invariant-loop-k l = Spanning l.n (crossing (bit l.side) (graph_in l.neighbours)) l.basis l.rank l.k
-
-abbrev pub decreases-loop-k : goal.decreases-loop-k
-decreases-loop-k l = l.n - l.k

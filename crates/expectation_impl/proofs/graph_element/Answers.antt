@@ -1,30 +1,12 @@
 -- `graph_element` meets its contract: the element of a graph's group with these x bits.
 use mathlib.Core.Path.{◌∙◌, subst, sym}
 use Prim.Native.Nat.{◌+◌}
-use native.Mathlib.Omega.{arith}
 use Rattle.expectation_impl.proofs.Elements.{PartElement, element-off, element-on, no-element, whole-element}
 use Rattle.expectation_impl.proofs.graph_element.Goals as goal
 use Rattle.expectation_impl.proofs.graph_element.Goals.{else-has, then-has}
 
 pub loop-j-init : goal.loop-j-init
 loop-j-init c = no-element _ _
-
-pub has-requires : goal.has-requires
-has-requires c = omega (arith, c.loop-j-test.true, c.requires.0)
-
-pub offset_bounds-neighbours-j : goal.offset_bounds-neighbours-j
-offset_bounds-neighbours-j c = omega (arith, c.loop-j-test.true, c.requires.0)
-
-pub bounds-neighbours-j : goal.bounds-neighbours-j
-bounds-neighbours-j c = c.loop-j-test.true
-
-pub single-requires : goal.single-requires
-single-requires c =
-    omega (
-      arith,
-      c.loop-j-test.true,
-      c.requires.0,
-    )
 
 pub loop-j-preserved : goal.loop-j-preserved
 loop-j-preserved c =

@@ -1,9 +1,9 @@
--- `read` meets its contract: other letters, or the same letters with equal or opposite signs.
+-- `read` meets its contract: no value where the letters differ, else whether the signs do.
 use mathlib.Core.Bool.{cond}
 use mathlib.Core.Path.{◌∙◌, ap, sym}
 use lib.Dec.{eqb}
 use borrow.Author.Tests.{eq-eqb, ne_eqb}
-use Rattle.expectation_impl.proofs.Elements.{byte-of-signs}
+use Rattle.expectation_impl.proofs.Elements.{signs-differ}
 use Rattle.words.specs.Bits.{digit, ◌⊕◌}
 use Rattle.expectation_impl.proofs.read.Goals as goal
 
@@ -15,6 +15,6 @@ returns-then-element-row c =
 pub returns : goal.returns
 returns c =
     let a = c.args in
-    byte-of-signs (eqb a.element.phase 2) a.row.minus
+    signs-differ (eqb a.element.phase 2) a.row.minus
     ∙ sym (ap (λ b. cond b (digit (eqb a.element.phase 2 ⊕ a.row.minus)) 2)
     (eq-eqb _ _ c.if-element-row.false))

@@ -1,22 +1,13 @@
 -- `row_value` meets its contract: the value of the row with these two words, sign plus.
-use mathlib.Core.Path.{◌∙◌, ◌≡◌, subst, sym}
-use Prim.Native.Nat.{◌≤◌}
+use mathlib.Core.Path.{◌∙◌, ◌≡◌, subst}
 use Rattle.expectation.proofs.ReadWords.{read_is}
-use Rattle.record.specs.Graph.{Simple, graph_generator}
+use Rattle.record.specs.Graph.{graph_generator}
 use Rattle.record.specs.NeighbourWords.{graph_in}
 use Rattle.pauli.specs.internal.Rows.{pauli_of}
 use Rattle.record.specs.Lent.{LentRecord, lent_record}
 use Rattle.stabilizer.specs.Groups.{product}
 use Rattle.words.specs.Bits.{bit}
 use Rattle.expectation_impl.proofs.row_value.Goals as goal
-
-pub graph_element-requires : goal.graph_element-requires
-graph_element-requires c =
-    let A = c.requires.accepted_record in
-    let words = c.args.neighbours.now in (
-      subst (λ m. m ≤ 64) (sym A.neighbours-length) A.upto,
-      subst (λ m. Simple m (graph_in words)) (sym A.neighbours-length) A.simple,
-    )
 
 pub returns : goal.returns
 returns c =

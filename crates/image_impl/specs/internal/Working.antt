@@ -7,6 +7,8 @@ use Rattle.operations.specs.internal.InPlace.{Unrefused, record_in}
 use Rattle.record.specs.Lent.{held_record}
 use Rattle.record.specs.Records.{GraphRecord, complement_all}
 use Rattle.words.specs.Bits.{bit}
+use Rattle.image.specs.Image.{image_record}
+use Rattle.image.specs.Rule.{image_list}
 use Rattle.image_impl.specs.declared.complementing.Tracked.{Tracked}
 
 -- the state of the rule: the lent buffers of the record and the list, the words of C and D, the count of the list
@@ -46,6 +48,13 @@ pub record Complemented (n : ℕ) (w : Working) (vertices : List ℕ) (r : Worki
   pub list : listed r ≡ listed w ++ vertices
   pub count : r.count ≡ w.count + length vertices
   pub tracking : Tracking n r
+
+-- w is what the image rule comes to on r: the record at its end, and the list
+pub record Ruled (n : ℕ) (r : GraphRecord) (w : Working) : Type 0 where
+  pub held : working_record w ≡ image_record n r
+  pub list : listed w ≡ image_list n r
+  pub count : w.count ≡ length (image_list n r)
+  pub tracking : Tracking n w
 
 -- vertex j is in the set c and has a neighbour there
 abbrev pub joined_in : List ℕ → ℕ → ℕ → Bool

@@ -13,7 +13,5 @@ image-own-requires c = (unrefused-codes _ _ c.requires.unrefused.0).1 _
 pub returns : goal.returns
 returns c =
     let own = c.image-own in
-    read-by-calls _ _ c.requires.unrefused.0 _ c.requires.unrefused.1 _ c.requires.le_pauli.0 own.result.minus c.image-own.ensures.letter_value
-    c.image-own.ensures.minus_value c.letter_named-asked.ensures
-    c.z_bit.ensures c.z_bit-2.ensures
-    c.x_bit.ensures c.x_bit-2.ensures
+    read-by-calls _ _ c.requires.unrefused.0 _ c.requires.unrefused.1 _ c.requires.le_pauli.0 own.result.minus
+    own.ensures.letter_value own.ensures.minus_value c.letter_named.ensures c.eq.ensures

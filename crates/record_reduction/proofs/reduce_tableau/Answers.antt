@@ -18,8 +18,8 @@ use Rattle.record.specs.Lent.{code_numbers, neighbour_words}
 use Rattle.record.specs.Reduced.{reduced}
 use Rattle.record_reduction.proofs.Passing.{column-pivoted, column-skipped, eliminated-at, eliminated-loaded, free-row, pivot-ready, same-state}
 use Rattle.record_reduction.proofs.Pivoting.{cleared, cleared-commutes, far-row, from_end, from-small, from_start, from_step, lent-already, lent-commutes, lent-now, pivot-not-named}
-use Rattle.record_reduction.proofs.Relating.{paired-end, paired-start, paired-step, related-loaded}
-use Rattle.record_reduction.proofs.Rotating.{rotate-end, rotate-start, rotate-step}
+use Rattle.record_reduction.proofs.Relating.{paired-end, paired-step, related-loaded}
+use Rattle.record_reduction.proofs.Rotating.{rotate-end, rotate-step}
 use Rattle.record_reduction.specs.internal.Passes.{Eliminated, Loaded, PivotReady}
 use Rattle.record_reduction.specs.internal.Passes.Eliminated.{pivoted, start}
 use Rattle.record_reduction.proofs.Shearing.{alone-commutes, alone-long, alone-sheared, laid_on, next-commutes, next_row, shear-end, shear-start, shear-step, sign-end, sign_kept, sign-step, without_sign}
@@ -32,7 +32,7 @@ use Rattle.words.proofs.BitLaws.{bit-xor, digit-odd, flip-less, zero_bit}
 use Rattle.words.proofs.Finite.{bits}
 use Rattle.words.proofs.Places.{put_other}
 use Rattle.words.specs.Bits.{Word, bit, digit, is_odd, ◌⊕◌}
-use Rattle.record_reduction.proofs.Rounds.{Both, Stage, both-complete, both-left-over, end-record, end-within, first_round, second-round, stage-loaded, stage-start, stage-turned}
+use Rattle.record_reduction.proofs.Rounds.{Both, Stage, both-complete, both-left-over, end-record, end-within, first_round, second-round, stage-loaded, stage-turned}
 use Rattle.record_reduction.proofs.reduce_tableau.Lts as lts
 use Rattle.record_reduction.proofs.reduce_tableau.Reads as reads
 use Rattle.record_reduction.proofs.reduce_tableau.Tie as tie
@@ -130,14 +130,14 @@ lent-in c =
 -- the array with the row that was lent a bit
 abbrev rows-lent : AfterFlipWhere2 → List (List ℕ)
 rows-lent c =
-    let L = (turn c.before.before.before.before.before.before.before.before.before).loop-q in
+    let L = (turn c.before.before.before.before.before.before.before.before.before.before.before).loop-q in
     set L.rows L.q (bit_xor (get_or (get_or L.rows L.q []) 0 0)
     (get_or (get_or L.rows c.smallest-i.result []) 0 0)
     ∷ bit_xor (get_or (get_or L.rows L.q []) 1 0) (get_or (get_or L.rows c.smallest-i.result []) 1 0) ∷ [])
 
 -- before row q is multiplied into others: its number, the signs with its own laid on, and without
 abbrev column-laid : AfterRowKnown → ℕ
-column-laid c = (turn c.before.before.before.before.before.before.before).loop-q.q
+column-laid c = (turn c.before.before.before.before.before.before.before.before).loop-q.q
 
 abbrev signs-laid : AfterRowKnown → ℕ
 signs-laid c = bit_xor c.if-not-has-2.signs c.where_true-signs.result
@@ -146,11 +146,6 @@ abbrev signs-before : AfterRowKnown → Word
 signs-before c =
     without_sign (signs-laid c) (bit (signs-laid c) (column-laid c))
     c.put_bit-rest.result
-
--- ---- the signs made relative
-pub loop-k-init : goal.loop-k-init
-loop-k-init c =
-    paired-start c.args.rows c.args.signs c.args.n
 
 pub loop-k-preserved : goal.loop-k-preserved
 loop-k-preserved c =
@@ -169,13 +164,6 @@ related c =
 
 loaded : (c : AtLoop2) → Loaded (start-2 c).args.n (relative (bit c.loop-k.signs) (start-2 c).args.rows)
 loaded c = related-loaded (start-2 c).args.n (related c) (start-2 c).requires.loaded
-
--- ---- the rounds
-pub loop-round-init : goal.loop-round-init
-loop-round-init c = (
-  stage-start c.args.n c.mask-all.result (relative (bit c.loop-k.signs) c.args.rows) 0,
-  c.well_formed.0.1.0.1,
-)
 
 loaded2 : (c : InLoop2) → Loaded (start-2 c.before).args.n (relative (bit c.loop-round.signs)
     c.loop-round.rows)
@@ -266,14 +254,14 @@ ready c i e =
 lender : (c : AfterSmallest) → c.smallest-i.result < 64
 lender c = (ready c.before.before.before c.smallest-i.result c.smallest-i.ensures.0).lender
 
-pub offset_bounds-rows-i : goal.offset_bounds-rows-i
-offset_bounds-rows-i c = omega (arith, lender c.before)
-
 pub bounds-rows-i : goal.bounds-rows-i
 bounds-rows-i c = omega (arith, lender c.before)
 
+pub bounds-rows-i-then-not-has-2 : goal.bounds-rows-i-then-not-has-2
+bounds-rows-i-then-not-has-2 c = omega (arith, lender c.before.before)
+
 pub has-requires-then-not-has-2 : goal.has-requires-then-not-has-2
-has-requires-then-not-has-2 c = lender c.before.before.before.before.before
+has-requires-then-not-has-2 c = lender c.before.before.before.before.before.before.before
 
 lacks : (c : Then3) → bit c.loop-j.holders
     (turn c.before.before).loop-q.q ≡
@@ -291,7 +279,7 @@ lending c =
 
 pub minus_word-requires : goal.minus_word-requires
 minus_word-requires c =
-    let M = c.before.before.before in
+    let M = c.before.before.before.before.before in
     let C = (turn M.before.before.before) in
     let L = C.loop-q in
     alone-commutes L.rows L.signs M.smallest-i.result L.q L.invariant.1 (column C) (lending M)
@@ -299,7 +287,7 @@ minus_word-requires c =
 -- row q with the bit that it was lent
 lent-long : (c : AfterFlipWhere2) → length (rows-lent c) ≡ 64
 lent-long c =
-    let M = c.before.before.before.before.before.before in
+    let M = c.before.before.before.before.before.before.before.before in
     let C = (turn M.before.before.before) in
     let L = C.loop-q in
     alone-long L.rows L.signs M.smallest-i.result L.q L.invariant.1 (column C) (lending M) _
@@ -310,9 +298,9 @@ lent-long c =
 
 lent_row : (c : AfterFlipWhere2) (j : ℕ)
     → relative (bit c.flip_where-signs-then-not-has-2.result) (rows-lent c) j
-    ≡ (lent-in c.before.before.before.before.before.before.before.before.before) j
+    ≡ (lent-in c.before.before.before.before.before.before.before.before.before.before.before) j
 lent_row c j =
-    let M = c.before.before.before.before.before.before in
+    let M = c.before.before.before.before.before.before.before.before in
     let C = (turn M.before.before.before) in
     let L = C.loop-q in
     alone-sheared L.rows L.signs M.smallest-i.result L.q L.invariant.1 (column C) (lending M) _
@@ -332,19 +320,30 @@ long c =
     elim c.if-not-has-2.branch [
       | then-not-has-2 w ↦ ap length w.rows-is ∙ lent-long (record {
         before = record {
-          before = record {
-            before = record {
-              before = record {
+          before =
+              record {
                 before = record {
-                  before = record { before = record { before = c.before; if-not-has-2 = w.if-not-has-2 }; smallest-i = w.smallest-i };
-                  lender-1 = w.lender-1;
+                  before = record {
+                    before = record {
+                      before = record {
+                        before =
+                            record {
+                              before = record {
+                                before = record { before = c.before; if-not-has-2 = w.if-not-has-2 };
+                                smallest-i = w.smallest-i;
+                              };
+                              z2-1 = w.z2-1;
+                            };
+                        x2-1 = w.x2-1;
+                      };
+                      z-then-not-has-2-1 = w.z-then-not-has-2-1;
+                    };
+                    x-then-not-has-2-1 = w.x-then-not-has-2-1;
+                  };
+                  minus_word = w.minus_word;
                 };
-                row-then-not-has-2-1 = w.row-then-not-has-2-1;
+                odd-minus = w.odd-minus;
               };
-              minus_word = w.minus_word;
-            };
-            odd-minus = w.odd-minus;
-          };
           has-then-not-has-2 = w.has-then-not-has-2;
         };
         flip_where-signs-then-not-has-2 = w.flip_where-signs-then-not-has-2;
@@ -359,26 +358,36 @@ lent c j =
     let C = (turn D) in
     elim c.if-not-has-2.branch [
       | then-not-has-2 w ↦ ap₂ (λ m v. relative (bit m) v j) w.signs-is w.rows-is ∙ lent_row (record {
-        before = record {
-          before = record {
-            before =
-                record {
+        before =
+            record {
+              before = record {
+                before = record {
                   before = record {
                     before = record {
-                      before = record {
-                        before = record { before = c.before; if-not-has-2 = w.if-not-has-2 };
-                        smallest-i = w.smallest-i;
-                      };
-                      lender-1 = w.lender-1;
+                      before =
+                          record {
+                            before = record {
+                              before = record {
+                                before = record {
+                                  before = c.before;
+                                  if-not-has-2 = w.if-not-has-2;
+                                };
+                                smallest-i = w.smallest-i;
+                              };
+                              z2-1 = w.z2-1;
+                            };
+                            x2-1 = w.x2-1;
+                          };
+                      z-then-not-has-2-1 = w.z-then-not-has-2-1;
                     };
-                    row-then-not-has-2-1 = w.row-then-not-has-2-1;
+                    x-then-not-has-2-1 = w.x-then-not-has-2-1;
                   };
                   minus_word = w.minus_word;
                 };
-            odd-minus = w.odd-minus;
-          };
-          has-then-not-has-2 = w.has-then-not-has-2;
-        };
+                odd-minus = w.odd-minus;
+              };
+              has-then-not-has-2 = w.has-then-not-has-2;
+            };
         flip_where-signs-then-not-has-2 = w.flip_where-signs-then-not-has-2;
       })
           j
@@ -387,11 +396,11 @@ lent c j =
           (ready D _ refl) (sym c.has-then-free-ne0.ensures ∙ w.if-not-has-2.false) j
     ]
 
-not_named : (c : AfterPutBit) → bit c.put_bit-rest.result (turn c.before.before.before.before).loop-q.q
+not_named : (c : AfterPutBit) → bit c.put_bit-rest.result (turn c.before.before.before.before.before).loop-q.q
     ≡
     false
 not_named c =
-    let J = c.before.before in
+    let J = c.before.before.before in
     let D = J.before.before in
     let C = (turn D) in
     pivot-not-named (rows_in C) C.loop-q.q (count_trailing_zeros 64 (free_in D)) D.loop-j.holders
@@ -410,9 +419,9 @@ same_sign c =
 
 lent_laid : (c : AfterRowKnown) (j : ℕ) → relative (signs-before c)
     c.if-not-has-2.rows j
-    ≡ (lent-in c.before.before.before.before.before.before.before) j
+    ≡ (lent-in c.before.before.before.before.before.before.before.before) j
 lent_laid c j =
-    let J = c.before.before.before.before.before in
+    let J = c.before.before.before.before.before.before in
     ap (λ b. relative_row b (get_or J.if-not-has-2.rows j []))
     (laid_on J.if-not-has-2.signs (signs-laid c) c.put_bit-rest.result c.where_true-signs.result (bit (signs-laid c)
     (column-laid c))
@@ -423,7 +432,7 @@ commutes : (c : AfterRowKnown) (j : ℕ) → bit c.put_bit-rest.result j ≡ tru
     → anticommute 64 (relative (signs-before c) c.if-not-has-2.rows j) (relative
     (signs-before c) c.if-not-has-2.rows (column-laid c)) ≡ false
 commutes c =
-    let D = c.before.before.before.before.before.before.before in
+    let D = c.before.before.before.before.before.before.before.before in
     let C = (turn D) in
     cleared-commutes (rows_in C) C.loop-q.q (count_trailing_zeros 64 (free_in D))
     D.loop-j.holders
@@ -432,7 +441,7 @@ commutes c =
 
 named-far : (c : AfterRowKnown) (t : ℕ) → 64 ≤ t → bit c.put_bit-rest.result t ≡ false
 named-far c t l =
-    let D = c.before.before.before.before.before.before.before in
+    let D = c.before.before.before.before.before.before.before.before in
     let C = (turn D) in
     c.put_bit-rest.ensures t
     ∙ put_other (bit D.loop-j.holders) C.loop-q.q false t
@@ -444,7 +453,7 @@ named-far c t l =
 -- ---- row q multiplied into the rows named
 pub loop-rest-init : goal.loop-rest-init
 loop-rest-init c =
-    let J = c.before.before.before.before.before.before in
+    let J = c.before.before.before.before.before.before.before in
     shear-start J.if-not-has-2.rows (signs-before c.before) (column-laid c.before) c.put_bit-rest.result (long J)
 
 next : (c : AfterSmallest2) → (c.smallest-i-in-loop-rest.result < 64) × (bit c.loop-rest.rest c.smallest-i-in-loop-rest.result
@@ -458,15 +467,12 @@ next c =
     c.loop-rest-test.true
     c.smallest-i-in-loop-rest.ensures.0
 
-pub offset_bounds-rows-i-in-loop-rest : goal.offset_bounds-rows-i-in-loop-rest
-offset_bounds-rows-i-in-loop-rest c = omega (arith, (next c.before).0)
-
 pub bounds-rows-i-in-loop-rest : goal.bounds-rows-i-in-loop-rest
 bounds-rows-i-in-loop-rest c = omega (arith, (next c.before).0)
 
 pub minus_word-minus-requires : goal.minus_word-minus-requires
 minus_word-minus-requires c =
-    let N = c.before.before in
+    let N = c.before.before.before in
     let L = N.loop-rest in
     let K = N.before.before.before in
     next-commutes K.if-not-has-2.rows (signs-before K) (column-laid K) K.put_bit-rest.result L.rows
@@ -474,21 +480,18 @@ minus_word-minus-requires c =
     (next N).1 (next N).0
     (commutes K)
 
-pub offset_bounds-rows-i-in-loop-rest-2 : goal.offset_bounds-rows-i-in-loop-rest-2
-offset_bounds-rows-i-in-loop-rest-2 c = omega (arith, (next c.before.before.before).0)
-
 pub bounds-rows-i-in-loop-rest-2 : goal.bounds-rows-i-in-loop-rest-2
-bounds-rows-i-in-loop-rest-2 c = omega (arith, (next c.before.before.before).0)
+bounds-rows-i-in-loop-rest-2 c = omega (arith, (next c.before.before).0)
+
+pub bounds-rows-i-in-loop-rest-3 : goal.bounds-rows-i-in-loop-rest-3
+bounds-rows-i-in-loop-rest-3 c = omega (arith, (next c.before.before.before.before).0)
 
 pub flip_odd-signs-requires : goal.flip_odd-signs-requires
-flip_odd-signs-requires c = (next c.before.before.before).0
-
-pub without_smallest-rest-requires : goal.without_smallest-rest-requires
-without_smallest-rest-requires c = c.loop-rest-test.true
+flip_odd-signs-requires c = (next c.before.before.before.before).0
 
 pub loop-rest-smaller : goal.loop-rest-smaller
 loop-rest-smaller c =
-    let N = c.before.before.before.before.before in
+    let N = c.before.before.before.before.before.before in
     let L = N.loop-rest in
     subst (λ v. v < L.rest) (sym c.without_smallest-rest.ensures)
     (flip-less L.rest _ (sym (ap (bit L.rest) N.smallest-i-in-loop-rest.ensures.0) ∙ (next N).1))
@@ -502,7 +505,7 @@ fewer c =
 
 pub loop-rest-preserved : goal.loop-rest-preserved
 loop-rest-preserved c =
-    let N = c.before.before.before.before.before in
+    let N = c.before.before.before.before.before.before in
     let L = N.loop-rest in
     let K = N.before.before.before in
     let P = K.before.before.before in
@@ -519,12 +522,12 @@ loop-rest-preserved c =
 
 -- column q has its pivot
 pivot-done : (c : AfterLoop5) (j : ℕ) → relative (bit c.loop-rest.signs) c.loop-rest.rows j
-    ≡ pivot_on 64 (rows_in (turn c.before.before.before.before.before.before.before.before.before)) (turn c.before.before.before.before.before.before.before.before.before).loop-q.q
-    (count_trailing_zeros 64 (free_in c.before.before.before.before.before.before.before.before.before)) j
+    ≡ pivot_on 64 (rows_in (turn c.before.before.before.before.before.before.before.before.before.before)) (turn c.before.before.before.before.before.before.before.before.before.before).loop-q.q
+    (count_trailing_zeros 64 (free_in c.before.before.before.before.before.before.before.before.before.before)) j
 pivot-done c j =
     let L = c.loop-rest in
     let K = c.before.before in
-    let D = K.before.before.before.before.before.before.before in
+    let D = K.before.before.before.before.before.before.before.before in
     let C = (turn D) in
     ap (λ b. relative_row b (get_or L.rows j [])) (sym (sign-end L.signs L.rest
     (bit (signs-laid K) (column-laid K))
@@ -567,42 +570,49 @@ loop-q-preserved c =
                   loop-j-test = w.loop-j-test;
                 })) refl w.if-free-ne0.true _ refl) _
                 (λ j. ap₂ (λ m v. relative (bit m) v j) w.signs-is w.rows-is ∙ pivot-done (record {
-                  before = record {
-                    before = record {
-                      before = record {
+                  before =
+                      record {
                         before = record {
                           before = record {
                             before = record {
                               before = record {
-                                before = record {
-                                  before =
-                                      record {
+                                before =
+                                    record {
+                                      before = record {
                                         before = record {
                                           before = record {
-                                            before = record { before = c.before.before; if-not-has = w.if-not-has };
-                                            loop-j =
-                                                w.loop-j;
+                                            before = record {
+                                              before =
+                                                  record {
+                                                    before = record {
+                                                      before = record {
+                                                        before = c.before.before;
+                                                        if-not-has = w.if-not-has;
+                                                      };
+                                                      loop-j = w.loop-j;
+                                                    };
+                                                    loop-j-test = w.loop-j-test;
+                                                  };
+                                              if-free-ne0 = w.if-free-ne0;
+                                            };
+                                            has-then-free-ne0 = w.has-then-free-ne0;
                                           };
-                                          loop-j-test = w.loop-j-test;
+                                          if-not-has-2 = w.if-not-has-2;
                                         };
-                                        if-free-ne0 = w.if-free-ne0;
+                                        by_z-1 = w.by_z-1;
                                       };
-                                  has-then-free-ne0 = w.has-then-free-ne0;
-                                };
-                                if-not-has-2 = w.if-not-has-2;
+                                      by_x-1 = w.by_x-1;
+                                    };
+                                put_bit-rest = w.put_bit-rest;
                               };
-                              by-1 = w.by-1;
+                              has-then-free-ne0-2 = w.has-then-free-ne0-2;
                             };
-                            put_bit-rest = w.put_bit-rest;
+                            where_true-signs = w.where_true-signs;
                           };
-                          has-then-free-ne0-2 = w.has-then-free-ne0-2;
+                          row_known-1 = w.row_known-1;
                         };
-                        where_true-signs = w.where_true-signs;
+                        loop-rest = w.loop-rest;
                       };
-                      row_known-1 = w.row_known-1;
-                    };
-                    loop-rest = w.loop-rest;
-                  };
                   loop-rest-test = w.loop-rest-test;
                 }) j) _
                 (λ j. ap (λ v. bit v j) w.pivots-is ∙ w.put_bit-pivots.ensures j) _ _ L.invariant.2
@@ -631,10 +641,6 @@ passed c =
     let done : L.q ≡ (start-2 c.before.before.before).args.n = omega (arith, L.invariant.0, c.loop-q-test.false) in
     eliminated-at done L.invariant.2
 
-pub loop-i-init : goal.loop-i-init
-loop-i-init c =
-    rotate-start c.loop-q.rows c.loop-q.signs _ _ c.loop-q.invariant.1
-
 few : (c : Then4) → bit_xor c.mask-all.result
     c.loop-q.pivots < 2 ^ 64
 few c =
@@ -649,7 +655,7 @@ few c =
 pub loop-i-preserved : goal.loop-i-preserved
 loop-i-preserved c =
     let L = c.loop-i in
-    let F = c.before.before.before.before.before.before in
+    let F = c.before.before.before.before.before.before.before in
     let S = (start-2 F.before.before.before.before) in
     rotate-step F.loop-q.rows F.loop-q.signs S.args.n _ L.rows L.signs L.i L.invariant
     c.loop-i-test.true

@@ -1,7 +1,7 @@
 -- What the loops of `reduce_tableau` keep.
 use mathlib.Core.List.{[]}
 use mathlib.Core.Path.{◌≡◌}
-use Prim.Native.Nat.{◌-◌, ◌≤◌}
+use Prim.Native.Nat.{◌≤◌}
 use lib.ListN.{get_or, length}
 use Rattle.record_reduction.proofs.Pivoting.{NamedFrom}
 use Rattle.record_reduction.proofs.Relating.{Paired}
@@ -18,15 +18,9 @@ use Rattle.record_reduction.proofs.reduce_tableau.Given as goal
 abbrev pub invariant-loop-k : goal.invariant-loop-k
 invariant-loop-k l = Paired l.rows l.initial.signs l.n l.signs l.k
 
-abbrev pub decreases-loop-k : goal.decreases-loop-k
-decreases-loop-k l = l.n - l.k
-
 -- the rows with the x bit of a column
 abbrev pub invariant-loop-j : goal.invariant-loop-j
 invariant-loop-j l = (l.j ≤ l.n) × NamedFrom l.n (λ i. bit (get_or (get_or l.rows i []) 1 0) l.q) l.holders l.j
-
-abbrev pub decreases-loop-j : goal.decreases-loop-j
-decreases-loop-j l = l.j
 
 -- row q multiplied into others
 abbrev pub invariant-loop-rest : goal.invariant-loop-rest
@@ -41,19 +35,10 @@ invariant-loop-q l =
     (l.q ≤ l.n) × (length l.rows ≡ 64)
     × Eliminated l.n (relative (bit l.initial.signs) l.initial.rows) (bit l.initial.pivots) (relative (bit l.signs) l.rows) (bit l.pivots) l.q
 
-abbrev pub decreases-loop-q : goal.decreases-loop-q
-decreases-loop-q l = l.n - l.q
-
 -- the Hadamards
 abbrev pub invariant-loop-i : goal.invariant-loop-i
 invariant-loop-i l = Rotated l.initial.rows l.initial.signs l.n l.hadamards l.rows l.signs l.i
 
-abbrev pub decreases-loop-i : goal.decreases-loop-i
-decreases-loop-i l = l.n - l.i
-
 -- the rounds
 abbrev pub invariant-loop-round : goal.invariant-loop-round
 invariant-loop-round l = Stage l.n l.all (relative (bit l.initial.signs) l.initial.rows) (relative (bit l.signs) l.rows) l.pivots l.hadamards l.round × (length l.rows ≡ 64)
-
-abbrev pub decreases-loop-round : goal.decreases-loop-round
-decreases-loop-round l = 2 - l.round

@@ -1,5 +1,6 @@
 -- What the functions that read a record's text tell: a line, and the whole text.
-use Rattle.std.specs.Prelude.{false, true, List, ◌≡◌, ℕ, ◌≤◌, length, take}
+use Rattle.std.specs.Prelude.{List, IfSome, None, Option, ◌≡◌, ℕ, ◌≤◌, length, take}
+use Rattle.std.specs.Option.{is_some}
 use Rattle.buffers.specs.Buffers.{tabulate}
 use Rattle.text.specs.RecordTexts.{line_at, line_read, numbered_line, qubit_count, record_form}
 use Rattle.words.specs.Bits.{word_of}
@@ -10,19 +11,25 @@ use Rattle.text_records.specs.declared.reading.ReadRecord.{ReadRecord}
 abbrev pub print_at : ℕ → List ℕ → List ℕ
 print_at q t = numbered_line q (line_at q t)
 
--- what the line of qubit q at the start of t says, and whether t starts with its print
-pub record LineTold (q : ℕ) (t : List ℕ) (r : ReadLine) : Type 0 where
+-- a line that stands at the start of t
+pub record LineThere (q : ℕ) (t : List ℕ) (r : ReadLine) : Type 0 where
   pub line : r.line ≡ line_at q t
   pub size : r.size ≡ length (print_at q t)
-  pub there : r.fits ≡ true → take r.size t ≡ print_at q t
-  pub other : r.fits ≡ false → take r.size t ≡ print_at q t → ⊥
+  pub there : take r.size t ≡ print_at q t
 
--- whether t has the form, and then its lines, of which the first 64 are kept
-pub record TextTold (t : List ℕ) (r : ReadRecord) : Type 0 where
-  pub form : r.form ≡ record_form t
-  pub count : r.form ≡ true → r.count ≡ qubit_count t
-  pub neighbours : r.form ≡ true → r.count ≤ 64 →
-      take r.count r.neighbours ≡ tabulate r.count (λ q. (line_read t q).word)
-  pub codes : r.form ≡ true → r.count ≤ 64 →
-      take r.count r.codes ≡ tabulate r.count (λ q. (line_read t q).code)
-  pub used : r.form ≡ true → r.count ≤ 64 → r.used ≡ word_of r.count (λ q. (line_read t q).used)
+-- what the line of qubit q at the start of t says, where t starts with its print
+pub record LineTold (q : ℕ) (t : List ℕ) (r : Option ReadLine) : Type 0 where
+  pub there : IfSome r (LineThere q t)
+  pub other : r ≡ None → take (length (print_at q t)) t ≡ print_at q t → ⊥
+
+-- the lines of t, of which the first 64 are kept
+pub record LinesTold (t : List ℕ) (r : ReadRecord) : Type 0 where
+  pub count : r.count ≡ qubit_count t
+  pub neighbours : r.count ≤ 64 → take r.count r.neighbours ≡ tabulate r.count (λ q. (line_read t q).word)
+  pub codes : r.count ≤ 64 → take r.count r.codes ≡ tabulate r.count (λ q. (line_read t q).code)
+  pub used : r.count ≤ 64 → r.used ≡ word_of r.count (λ q. (line_read t q).used)
+
+-- whether t has the form, and then its lines
+pub record TextTold (t : List ℕ) (r : Option ReadRecord) : Type 0 where
+  pub form : is_some r ≡ record_form t
+  pub lines : IfSome r (LinesTold t)

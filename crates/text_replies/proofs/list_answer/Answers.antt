@@ -4,33 +4,20 @@ use Rattle.text_replies.proofs.ListPlaces.{lent-places, places-long, places-prin
 use Rattle.buffers.proofs.Writing.{same-print}
 use Rattle.text_replies.proofs.list_answer.Goals as goal
 
-pub slice_bounds-print_reduced-end : goal.slice_bounds-print_reduced-end
-slice_bounds-print_reduced-end c = sym (places-long _ _ c.places-m.ensures _ c.well_formed.1.0.1.0.1)
-
-pub slice_bounds-print_reduced-end-2 : goal.slice_bounds-print_reduced-end-2
-slice_bounds-print_reduced-end-2 c =
-    sym (places-long _ _ c.places-m.ensures _
-    c.well_formed.1.1.0.1.0.1)
-
-pub slice_bounds-print_reduced-end-3 : goal.slice_bounds-print_reduced-end-3
-slice_bounds-print_reduced-end-3 c =
-    sym (places-long _ _ c.places-m.ensures _
-    c.well_formed.1.1.1.0.1.0.1)
-
 pub slice_bounds-print_reduced-end-4 : goal.slice_bounds-print_reduced-end-4
-slice_bounds-print_reduced-end-4 c = sym (places-long _ _ c.places-m.ensures _ refl)
+slice_bounds-print_reduced-end-4 c = sym (places-long _ _ c.min-m.ensures _ refl)
 
 pub slice_bounds-print_reduced-end-5 : goal.slice_bounds-print_reduced-end-5
-slice_bounds-print_reduced-end-5 c = sym (places-long _ _ c.places-m.ensures _ refl)
+slice_bounds-print_reduced-end-5 c = sym (places-long _ _ c.min-m.ensures _ refl)
 
 pub print_reduced-requires : goal.print_reduced-requires
 print_reduced-requires c =
-    lent-places _ _ c.places-m.ensures _ _ _ refl refl
+    lent-places _ _ c.min-m.ensures _ _ _ refl refl
     c.requires
 
 pub returns : goal.returns
 returns c =
     same-print
     (places-printed _ _
-    c.places-m.ensures
+    c.min-m.ensures
     _ _ _) c.print_reduced.ensures

@@ -4,12 +4,12 @@ use Rattle.text_replies.proofs.ReadTexts.{formed-responds, malformed-responds}
 use Rattle.calls.specs.ListAnswers.{list_answer}
 use Rattle.text_replies.proofs.list_reply.Goals as goal
 
-pub returns-then-verdict : goal.returns-then-verdict
-returns-then-verdict c =
-    formed-responds list_answer _ _ _ _ _ _ _ too-many-printed c.if-verdict.true
+pub returns-in-Some : goal.returns-in-Some
+returns-in-Some c =
+    formed-responds list_answer _ _ _ _ _ _ _ too-many-printed c.in-Some.n c.in-Some.is
     c.list_answer.ensures
 
-pub returns : goal.returns
-returns c =
-    malformed-responds list_answer _ _ _ _ _ _ _ c.if-verdict.false
+pub returns-in-None : goal.returns-in-None
+returns-in-None c =
+    malformed-responds list_answer _ _ _ _ _ _ _ c.in-None.is
     c.print_refusal.ensures

@@ -11,8 +11,3 @@ returns-then-b c =
     let a = c.args in
     bit-flip-where a.w a.q a.b _ (c.flip.ensures
     ∙ ap (λ b. cond b (bit_xor a.w (2 ^ a.q)) a.w) (sym c.if-b.true))
-
-pub returns-else-b : goal.returns-else-b
-returns-else-b c =
-    let a = c.args in
-    bit-flip-where a.w a.q a.b _ (ap (λ b. cond b (bit_xor a.w (2 ^ a.q)) a.w) (sym c.if-b.false))

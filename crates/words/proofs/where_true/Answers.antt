@@ -5,8 +5,5 @@ use Rattle.words.proofs.BitLaws.{zero_bit}
 use Rattle.words.specs.Bits.{bit}
 use Rattle.words.proofs.where_true.Goals as goal
 
-pub returns-then-b : goal.returns-then-b
-returns-then-b c = λ q. sym (ap (λ b. b && bit c.args.word q) c.if-b.true)
-
 pub returns-else-b : goal.returns-else-b
 returns-else-b c = λ q. zero_bit q ∙ sym (ap (λ b. b && bit c.args.word q) c.if-b.false)

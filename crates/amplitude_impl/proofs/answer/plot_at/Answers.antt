@@ -39,4 +39,9 @@ slice_bounds-line_by_copies-end-4 c =
 pub line_by_copies-requires : goal.line_by_copies-requires
 line_by_copies-requires c =
     let U = c.requires in
-    let short = unrefused-short _ _ U in record { unrefused = U; words_len = (part-long _ _ short refl, part-long _ _ short refl); measured_len = (part-long _ _ short refl, part-long _ _ short refl) }
+    let short = unrefused-short _ _ U in
+    record {
+      unrefused = U;
+      words_len = (part-long _ _ short refl, part-long _ _ short refl);
+      measured_len = (part-long _ _ short refl, part-long _ _ short refl);
+    }

@@ -1,11 +1,6 @@
 -- `dot_below` meets its contract: whether the places below j where both words have a 1 are odd in number.
-use native.Mathlib.Omega.{arith}
-use lib.Pow.{pow_pos}
 use Rattle.amplitude_impl.proofs.Vertices.{dot-below}
 use Rattle.amplitude_impl.proofs.turns.dot_below.Goals as goal
-
-pub overflow_sub-single : goal.overflow_sub-single
-overflow_sub-single c = omega (arith, c.single.ensures, pow_pos c.args.j)
 
 pub returns : goal.returns
 returns c =

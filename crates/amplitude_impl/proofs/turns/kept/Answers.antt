@@ -1,7 +1,6 @@
 -- `kept` meets its contract: the vertices without a Hadamard.
 use mathlib.Core.Bool.{not}
 use mathlib.Core.Path.{ap}
-use native.Mathlib.Omega.{arith}
 use Rattle.clifford.specs.Clifford.{bit_c}
 use Rattle.clifford.specs.Vectors.{codes_of}
 use Rattle.amplitude_impl.proofs.FoundWords.{found_none, found-one}
@@ -10,16 +9,6 @@ use Rattle.amplitude_impl.proofs.turns.kept.Goals as goal
 
 pub loop-i-init : goal.loop-i-init
 loop-i-init c = found_none _ _
-
-pub c_bit-requires : goal.c_bit-requires
-c_bit-requires c = c.requires.1 c.loop-i.i
-
-pub flip_where-all-requires : goal.flip_where-all-requires
-flip_where-all-requires c =
-    omega (arith, c.loop-i-test.true, c.requires.0)
-
-pub loop-i-smaller : goal.loop-i-smaller
-loop-i-smaller c = omega (arith, c.loop-i-test.true)
 
 pub loop-i-preserved : goal.loop-i-preserved
 loop-i-preserved c =

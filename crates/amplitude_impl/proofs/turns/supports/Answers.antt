@@ -1,5 +1,4 @@
 -- `supports` meets its contract: whether a word is supported: each equation holds.
-use mathlib.Core.Bool.{true}
 use mathlib.Core.Path.{refl}
 use native.Mathlib.Omega.{arith}
 use Rattle.amplitude.specs.internal.KeptTurns.{fits_at}
@@ -28,9 +27,6 @@ returns-then-not-fits c =
     let a = c.args in
     one-fails (fits_at (held_record (record_in a.neighbours.now a.codes.now)) a.y) _ _
     c.fits.ensures _ c.loop-j-test.true c.if-not-fits.true-raw
-
-pub loop-j-smaller : goal.loop-j-smaller
-loop-j-smaller c = omega (arith, c.loop-j-test.true)
 
 pub loop-j-preserved : goal.loop-j-preserved
 loop-j-preserved c =

@@ -4,7 +4,7 @@ use native.Mathlib.Omega.{arith}
 use Rattle.amplitude.specs.internal.KeptTurns.{kept_turns}
 use Rattle.operations.proofs.UnrefusedRecords.{unrefused-codes, unrefused-place, unrefused-short}
 use Rattle.words.specs.Bits.{fold}
-use Rattle.amplitude_impl.proofs.Loops.{chosen-low, turns-all, turns_more, turns-small}
+use Rattle.amplitude_impl.proofs.Loops.{chosen-low, turns-all, turns_more}
 use Rattle.amplitude_impl.proofs.turns.turns.Goals as goal
 
 pub kept-requires : goal.kept-requires
@@ -23,17 +23,6 @@ turns_of-requires c = (
   omega (arith, c.loop-j-test.true, unrefused-short _ _ c.requires),
   chosen-low _ _ c.requires c.args.y _ (_, c.kept.ensures, refl) _ c.loop-j-test.true,
 )
-
-pub overflow_add-sum : goal.overflow_add-sum
-overflow_add-sum c =
-    omega (
-      arith,
-      turns-small _ _ c.requires c.args.y _ (_, c.kept.ensures, refl) _ _ _
-          c.loop-j.invariant.1 c.turns_of.ensures,
-    )
-
-pub loop-j-smaller : goal.loop-j-smaller
-loop-j-smaller c = omega (arith, c.loop-j-test.true)
 
 pub loop-j-preserved : goal.loop-j-preserved
 loop-j-preserved c =

@@ -1,6 +1,6 @@
 -- What the loops of `turns` keep.
 use mathlib.Core.Path.{◌≡◌}
-use Prim.Native.Nat.{◌-◌, ◌≤◌}
+use Prim.Native.Nat.{◌≤◌}
 use lib.ListN.{length}
 use Rattle.amplitude.specs.internal.KeptTurns.{kept_turns}
 use Rattle.operations.specs.internal.InPlace.{record_in}
@@ -10,7 +10,6 @@ use Rattle.words.specs.Bits.{bit}
 use Rattle.amplitude_impl.proofs.turns.turns.Given as goal
 
 abbrev pub invariant-loop-j : goal.invariant-loop-j
-invariant-loop-j l = (l.j ≤ length l.neighbours) × (l.sum ≡ exponent (kept_turns l.j (held_record (record_in l.neighbours l.codes)) (bit l.y)))
-
-abbrev pub decreases-loop-j : goal.decreases-loop-j
-decreases-loop-j l = length l.neighbours - l.j
+invariant-loop-j l =
+    (l.j ≤ length l.neighbours)
+    × (l.sum ≡ exponent (kept_turns l.j (held_record (record_in l.neighbours l.codes)) (bit l.y)))

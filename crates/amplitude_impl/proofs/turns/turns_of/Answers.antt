@@ -1,10 +1,8 @@
 -- `turns_of` meets its contract: the power of i of vertex j in a word of vertices without a Hadamard, from 0 to 3: by
 -- its code, and a minus for each smaller neighbour in the word.
 use mathlib.Core.Bool.{◌&&◌}
-use native.Mathlib.Omega.{arith}
 use borrow.Author.Tests.{not-false, not-true}
 use Rattle.amplitude_impl.proofs.Vertices.{turns-none, turns-some}
-use Rattle.clifford_impl.proofs.CodeDigits.{byte-lt}
 use Rattle.words.specs.Bits.{bit, parity}
 use Rattle.amplitude_impl.proofs.turns.turns_of.Goals as goal
 
@@ -13,12 +11,6 @@ returns-then-not-has c =
     let a = c.args in
     turns-none a.code c.has.ensures (parity a.j (λ q. bit a.word q && bit a.chosen q))
     (not-true _ c.if-not-has.true-raw)
-
-pub overflow_mul-result-2 : goal.overflow_mul-result-2
-overflow_mul-result-2 c = omega (arith, byte-lt c.dot_below.result)
-
-pub overflow_add-result-2 : goal.overflow_add-result-2
-overflow_add-result-2 c = omega (arith, byte-lt c.dot_below.result)
 
 pub returns : goal.returns
 returns c =

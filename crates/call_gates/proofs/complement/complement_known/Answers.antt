@@ -1,53 +1,34 @@
 -- `complement_known` meets its contract: local complementation at a vertex; the record is not reduced.
 use mathlib.Core.Bool.{false}
-use mathlib.Core.Path.{◌≡◌, refl}
+use mathlib.Core.Path.{refl}
 use lib.Dec.{leb}
-use Rattle.buffers.specs.Refusals.{first_fitting}
 use Rattle.buffers.proofs.Calling.{refused}
-use Rattle.operations.specs.Steps.{Operation, complement_of}
-use Rattle.operations.specs.Used.{used_lines_of, UsedRecord, used_record}
+use Rattle.buffers.proofs.RefusalLaws.{passed_on}
+use Rattle.operations.specs.Steps.{complement_of}
+use Rattle.operations.specs.Used.{UsedRecord, used_record}
 use Rattle.calls.proofs.InPlaceCalls.{as_before, in-place-done}
 use Rattle.calls.proofs.InPlaceLines.{complement-ready}
 use Rattle.calls.proofs.UsedInPlace.{named-as}
-use Rattle.call_gates.proofs.complement.complement_known.Lts as lts
-use Rattle.call_gates.proofs.complement.complement_known.Reads as reads
-use Rattle.call_gates.proofs.complement.complement_known.Tie as tie
 use Rattle.call_gates.proofs.complement.complement_known.Goals as goal
 
--- where the lemmas below stand
-abbrev AfterInPlaceRefusalEarly : Type 0
-AfterInPlaceRefusalEarly = lts.After-in_place_refusal tie.the-claims reads.Pre reads.Post
-
-abbrev Start : Type 0
-Start = lts.Start tie.the-claims reads.Pre reads.Post
-
--- the record that is lent
-abbrev lent : Start → UsedRecord
-lent S = used_record S.args.n S.args.neighbours.now S.args.codes.now S.args.used
-
-abbrev asked : Start → Operation
-asked S = complement_of S.args.a
-
--- the number of its lines
-number : (E : AfterInPlaceRefusalEarly)
-    → E.in_place_refusal-early.result ≡ first_fitting (used_lines_of (lent E.before.before.before.before)
-    (asked E.before.before.before.before))
-number E =
-    let S = E.before.before.before.before in
-    named-as (lent S) false (leb S.args.n S.args.a) E.in_place_refusal-early.ensures
-    E.bit_at-sixteen.ensures
-
-pub returns-then-early-ne0 : goal.returns-then-early-ne0
-returns-then-early-ne0 c = refused _ (number c.before) c.if-early-ne0.true (refl, (refl, tt))
+pub returns-in_err-in_place_refusal : goal.returns-in_err-in_place_refusal
+returns-in_err-in_place_refusal c =
+    let a = c.args in
+    let u : UsedRecord = used_record a.n a.neighbours.now a.codes.now a.used in
+    let R = passed_on _ _ c.from_residual.ensures.1 c.in_err-in_place_refusal.ensures in
+    refused _ (named-as u false (leb a.n a.a) R.0 c.bit_at-sixteen.ensures) R.1 (refl, (refl, tt))
 
 pub complement_record-requires : goal.complement_record-requires
 complement_record-requires c =
-    let S = c.before.before.before.before.before.before.before in
-    complement-ready (lent S).held S.args.a
-    (as_before (lent S) (asked S) (number c.before.before.before) c.if-early-ne0.false)
+    let a = c.args in
+    let u : UsedRecord = used_record a.n a.neighbours.now a.codes.now a.used in
+    let e = named-as u false (leb a.n a.a) c.in_ok-in_place_refusal.ensures c.bit_at-sixteen.ensures in
+    complement-ready u.held a.a (as_before u (complement_of a.a) e refl)
 
 pub returns : goal.returns
 returns c =
-    let S = c.before.before.before.before.before.before.before.before.before.before.before.before.before in
-    in-place-done (lent S) (asked S) (number c.before.before.before.before.before.before.before.before.before) c.if-early-ne0.false
+    let a = c.args in
+    let u : UsedRecord = used_record a.n a.neighbours.now a.codes.now a.used in
+    let e = named-as u false (leb a.n a.a) c.in_ok-in_place_refusal.ensures c.bit_at-sixteen.ensures in
+    in-place-done u (complement_of a.a) e refl
     c.complement_record.ensures.neighbours c.complement_record.ensures.numbers

@@ -1,67 +1,47 @@
 -- `measure_known` meets its contract: a Pauli measured at a qubit: the outcome, whether it was determined, the reduced
 -- record, and the qubit marked as used.
-use mathlib.Core.Path.{◌≡◌, ap, refl}
+use mathlib.Core.Path.{ap, refl}
 use native.Mathlib.Omega.{arith}
 use lib.Bits.{bit_or}
-use Rattle.buffers.specs.Refusals.{first_fitting}
 use Rattle.calls.proofs.InPlaceCalls.{as_before, measure-done}
 use Rattle.calls.proofs.InPlaceLines.{measure-ready}
 use Rattle.calls.proofs.MeasureLines.{measure-passes}
 use Rattle.buffers.proofs.Calling.{refused}
-use Rattle.operations.specs.Steps.{Operation, lines_of, measurement_of}
+use Rattle.buffers.proofs.RefusalLaws.{passed_on}
+use Rattle.operations.specs.Steps.{measurement_of}
 use Rattle.operations.proofs.AcceptedSteps.{accepted-step, measure-arguments}
 use Rattle.operations.specs.Used.{UsedRecord, used_record}
-use Rattle.call_gates.proofs.measure.measure_known.Lts as lts
-use Rattle.call_gates.proofs.measure.measure_known.Reads as reads
-use Rattle.call_gates.proofs.measure.measure_known.Tie as tie
 use Rattle.call_gates.proofs.measure.measure_known.Goals as goal
 
--- where the lemmas below stand
-abbrev ElseEarlyNe0 : Type 0
-ElseEarlyNe0 = lts.Else1 tie.the-claims reads.Pre reads.Post tie.handed_clauses
-
-abbrev Start : Type 0
-Start = lts.Start tie.the-claims reads.Pre reads.Post tie.handed_clauses
-
--- the record that is lent
-abbrev lent : Start → UsedRecord
-lent S = used_record S.args.n S.args.neighbours.now S.args.codes.now S.args.used.now
-
-abbrev asked : Start → Operation
-asked S = measurement_of S.args.pauli S.args.qubit S.args.outcome
-
--- accepted, no line held without the used word
-before : (D : ElseEarlyNe0) → let S = D.before.before.before.before.before in
-    first_fitting (lines_of (lent S).held (asked S)) ≡ 0
-before D =
-    let S = D.before.before.before.before.before in
-    as_before (lent S) (asked S) D.measure_refusal-early.ensures D.if-early-ne0.false
-
-pub returns-then-early-ne0 : goal.returns-then-early-ne0
-returns-then-early-ne0 c = refused _ c.measure_refusal-early.ensures c.if-early-ne0.true (refl, (refl, (refl, (refl, (refl, tt)))))
+pub returns-in_err-measure_refusal : goal.returns-in_err-measure_refusal
+returns-in_err-measure_refusal c =
+    let R = passed_on _ _ c.from_residual.ensures.1 c.in_err-measure_refusal.ensures in
+    refused _ R.0 R.1 (refl, (refl, (refl, (refl, (refl, tt)))))
 
 pub measure_record-measured-requires : goal.measure_record-measured-requires
 measure_record-measured-requires c =
-    let D = c.before.before.before in
-    let S = D.before.before.before.before.before in
-    let a = S.args in let whole = measure-ready (lent S).held a.pauli a.qubit a.outcome
-    (measure-passes (lent S).held a.pauli a.qubit a.outcome (before D)).0 in record { unrefused = whole.0; le_pauli = whole.1 }
+    let a = c.args in
+    let u : UsedRecord = used_record a.n a.neighbours.now a.codes.now a.used.now in
+    let before = as_before u (measurement_of a.pauli a.qubit a.outcome) c.in_ok-measure_refusal.ensures refl in
+    let whole = measure-ready u.held a.pauli a.qubit a.outcome
+    (measure-passes u.held a.pauli a.qubit a.outcome before).0 in
+    record { unrefused = whole.0; le_pauli = whole.1 }
 
 pub single-requires : goal.single-requires
 single-requires c =
-    let D = c.before.before.before.before.before.before.before.before.before.before in
-    let S = D.before.before.before.before.before in
-    let a = S.args in
+    let a = c.args in
+    let u : UsedRecord = used_record a.n a.neighbours.now a.codes.now a.used.now in
+    let before = as_before u (measurement_of a.pauli a.qubit a.outcome) c.in_ok-measure_refusal.ensures refl in
     omega (
       arith,
-      (accepted-step (lent S).held (asked S) (before D)).upto,
-      (measure-arguments (lent S).held a.pauli a.qubit a.outcome (before D)).below,
+      (accepted-step u.held (measurement_of a.pauli a.qubit a.outcome) before).upto,
+      (measure-arguments u.held a.pauli a.qubit a.outcome before).below,
     )
 
 pub returns : goal.returns
 returns c =
-    let S = c.before.before.before.before.before.before.before.before.before.before.before.before.before.before.before.before in
-    let a = S.args in
-    measure-done (lent S) a.pauli a.qubit a.outcome a.answer.now a.determined.now
-    c.measure_refusal-early.ensures c.if-early-ne0.false _ _ _ c.measure_record-measured.ensures _ _ _
+    let a = c.args in
+    let u : UsedRecord = used_record a.n a.neighbours.now a.codes.now a.used.now in
+    measure-done u a.pauli a.qubit a.outcome a.answer.now a.determined.now
+    c.in_ok-measure_refusal.ensures refl _ _ _ c.measure_record-measured.ensures _ _ _
     (ap (bit_or a.used.now) c.single.ensures) c.outcome_number.ensures c.determined_number.ensures

@@ -21,7 +21,9 @@ has-requires c =
 pub row_at-row-requires : goal.row_at-row-requires
 row_at-row-requires c =
     let a = c.args in
-    let l : GeneratorList = record { n = a.n; signs = a.signs.now; z = a.z.now; x = a.x.now } in let whole = row_read l a.chosen c.requires c.loop-j.j c.loop-j-test.true in record { j_in_bounds = whole.0; j_bound = whole.1 }
+    let l : GeneratorList = record { n = a.n; signs = a.signs.now; z = a.z.now; x = a.x.now } in
+    let whole = row_read l a.chosen c.requires c.loop-j.j c.loop-j-test.true in
+    record { j_in_bounds = whole.0; j_bound = whole.1 }
 
 pub loop-j-preserved : goal.loop-j-preserved
 loop-j-preserved c =
@@ -32,8 +34,8 @@ loop-j-preserved c =
     let more = c.loop-j-test.true in
     elim c.if-has.branch [
       | then-has k ↦ subst (PartProduct l a.chosen (L.j + 1)) (sym k.product-is)
-          (part-on l a.chosen c.requires L.j L.product L.invariant more _ _ (sym test ∙ k.if-has.true) k.row_at-row.ensures
-          k.times-product.ensures)
+          (part-on l a.chosen c.requires L.j L.product L.invariant more _ _ (sym test ∙ k.if-has.true)
+          k.row_at-row.ensures k.times-product.ensures)
       | else-has k ↦ subst (PartProduct l a.chosen (L.j + 1)) (sym k.product-is)
           (part_off l a.chosen c.requires L.j L.product L.invariant more (sym test ∙ k.if-has.false))
     ]

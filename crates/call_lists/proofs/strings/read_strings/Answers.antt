@@ -1,73 +1,76 @@
 -- `read_strings` meets its contract: the generator list of a text.
+use mathlib.Core.Path.{refl}
 use native.Mathlib.Omega.{arith}
-use Rattle.call_lists.proofs.ReadCalls.{part_of, part_room, read_done, read-formed, read-judged, read-refused}
+use Rattle.buffers.proofs.RefusalLaws.{passed_on}
+use Rattle.call_lists.proofs.ReadCalls.{read_done, read-formed, read-judged, read-refused}
 use Rattle.call_lists.proofs.strings.read_strings.Goals as goal
 
-pub returns-then-early-ne0 : goal.returns-then-early-ne0
-returns-then-early-ne0 c =
+pub returns-in_err-formed_refusal : goal.returns-in_err-formed_refusal
+returns-in_err-formed_refusal c =
     let a = c.args in
-    read-refused a.text.now a.signs.now a.z.now a.x.now _ c.letter_count-n.ensures
-    c.formed_refusal-early.ensures c.if-early-ne0.true
+    let R = passed_on _ _ c.from_residual.ensures.1 c.in_err-formed_refusal.ensures in
+    read-refused a.text.now a.signs.now a.z.now a.x.now _ c.letter_count-n.ensures R.0 R.1
 
 pub read_rows-list-requires : goal.read_rows-list-requires
 read_rows-list-requires c =
     let a = c.args in
     let F = read-formed a.text.now a.signs.now a.z.now a.x.now _ c.letter_count-n.ensures
-    c.formed_refusal-early.ensures c.if-early-ne0.false in
+    c.in_ok-formed_refusal.ensures refl in
     (F.few, F.size, F.fit)
 
-pub slice_bounds-own_signs-end : goal.slice_bounds-own_signs-end
-slice_bounds-own_signs-end c = part_room _ _ _ c.read_rows-list.ensures.signs_value
-
-pub slice_bounds-check-end : goal.slice_bounds-check-end
-slice_bounds-check-end c = part_of _ _ _ c.read_rows-list.ensures.signs_value
-
-pub slice_bounds-own_z-end : goal.slice_bounds-own_z-end
-slice_bounds-own_z-end c = part_room _ _ _ c.read_rows-list.ensures.z_value
-
-pub slice_bounds-check-end-2 : goal.slice_bounds-check-end-2
-slice_bounds-check-end-2 c = part_of _ _ _ c.read_rows-list.ensures.z_value
-
-pub slice_bounds-own_x-end : goal.slice_bounds-own_x-end
-slice_bounds-own_x-end c = part_room _ _ _ c.read_rows-list.ensures.x_value
-
-pub slice_bounds-check-end-3 : goal.slice_bounds-check-end-3
-slice_bounds-check-end-3 c = part_of _ _ _ c.read_rows-list.ensures.x_value
-
-pub returns-then-number-ne0 : goal.returns-then-number-ne0
-returns-then-number-ne0 c =
+pub shared_ref_as_front-check : goal.shared_ref_as_front-check
+shared_ref_as_front-check c =
     let a = c.args in
-    read-judged a.text.now a.signs.now a.z.now a.x.now _ c.letter_count-n.ensures
-    c.formed_refusal-early.ensures c.if-early-ne0.false _ _ _ c.read_rows-list.ensures.signs_value
-    c.read_rows-list.ensures.z_value c.read_rows-list.ensures.x_value
-    c.check-number.ensures c.if-number-ne0.true
+    (read-formed a.text.now a.signs.now a.z.now a.x.now _ c.letter_count-n.ensures
+    c.in_ok-formed_refusal.ensures refl).few
 
-pub copy_bytes-requires : goal.copy_bytes-requires
-copy_bytes-requires c =
+pub shared_ref_as_front-check-2 : goal.shared_ref_as_front-check-2
+shared_ref_as_front-check-2 c =
+    let a = c.args in
+    (read-formed a.text.now a.signs.now a.z.now a.x.now _ c.letter_count-n.ensures
+    c.in_ok-formed_refusal.ensures refl).few
+
+pub shared_ref_as_front-check-3 : goal.shared_ref_as_front-check-3
+shared_ref_as_front-check-3 c =
+    let a = c.args in
+    (read-formed a.text.now a.signs.now a.z.now a.x.now _ c.letter_count-n.ensures
+    c.in_ok-formed_refusal.ensures refl).few
+
+pub returns-in_err-check : goal.returns-in_err-check
+returns-in_err-check c =
+    let a = c.args in
+    let R = passed_on _ _ c.from_residual-in_err-check.ensures.1 refl in
+    read-judged a.text.now a.signs.now a.z.now a.x.now _ c.letter_count-n.ensures
+    c.in_ok-formed_refusal.ensures refl _ _ _ c.read_rows-list.ensures.signs_value
+    c.read_rows-list.ensures.z_value c.read_rows-list.ensures.x_value
+    (rw R.0 c.in_err-check.ensures) R.1
+
+pub copy_first-requires : goal.copy_first-requires
+copy_first-requires c =
     let a = c.args in
     let F = read-formed a.text.now a.signs.now a.z.now a.x.now _ c.letter_count-n.ensures
-    c.formed_refusal-early.ensures c.if-early-ne0.false in
+    c.in_ok-formed_refusal.ensures refl in
     omega (arith, F.few, F.signs-fit)
 
-pub copy_words-requires : goal.copy_words-requires
-copy_words-requires c =
+pub copy_first-requires-2 : goal.copy_first-requires-2
+copy_first-requires-2 c =
     let a = c.args in
     let F = read-formed a.text.now a.signs.now a.z.now a.x.now _ c.letter_count-n.ensures
-    c.formed_refusal-early.ensures c.if-early-ne0.false in
+    c.in_ok-formed_refusal.ensures refl in
     omega (arith, F.few, F.z-fit)
 
-pub copy_words-requires-2 : goal.copy_words-requires-2
-copy_words-requires-2 c =
+pub copy_first-requires-3 : goal.copy_first-requires-3
+copy_first-requires-3 c =
     let a = c.args in
     let F = read-formed a.text.now a.signs.now a.z.now a.x.now _ c.letter_count-n.ensures
-    c.formed_refusal-early.ensures c.if-early-ne0.false in
+    c.in_ok-formed_refusal.ensures refl in
     omega (arith, F.few, F.x-fit)
 
 pub returns : goal.returns
 returns c =
     let a = c.args in
     read_done a.text.now a.signs.now a.z.now a.x.now _ c.letter_count-n.ensures
-    c.formed_refusal-early.ensures c.if-early-ne0.false _ _ _ c.read_rows-list.ensures.signs_value
+    c.in_ok-formed_refusal.ensures refl _ _ _ c.read_rows-list.ensures.signs_value
     c.read_rows-list.ensures.z_value c.read_rows-list.ensures.x_value
-    c.check-number.ensures c.if-number-ne0.false c.copy_bytes.ensures c.copy_words.ensures
-    c.copy_words-2.ensures
+    c.in_ok-check.ensures refl c.copy_first.ensures c.copy_first-2.ensures
+    c.copy_first-3.ensures

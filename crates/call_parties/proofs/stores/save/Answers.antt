@@ -1,52 +1,48 @@
 -- `save` meets its contract: the party's vertices saved under the name.
+use mathlib.Core.Path.{refl}
+use native.Mathlib.Omega.{arith}
+use Rattle.buffers.proofs.RefusalLaws.{passed_on}
 use Rattle.store.specs.Places.{Store}
 use Rattle.operations.specs.Used.{UsedRecord, used_record}
 use Rattle.call_parties.proofs.Answering.{put-fits, save-done, save-full, save-refused, search-fits}
-use Rattle.call_parties.proofs.stores.save.Lts as lts
-use Rattle.call_parties.proofs.stores.save.Reads as reads
-use Rattle.call_parties.proofs.stores.save.Tie as tie
 use Rattle.call_parties.proofs.stores.save.Goals as goal
 
--- where the lemmas below stand
-abbrev Start : Type 0
-Start = lts.Start tie.the-claims reads.Pre reads.Post tie.handed_clauses
+pub returns-in_err-shared_refusal : goal.returns-in_err-shared_refusal
+returns-in_err-shared_refusal c =
+    let a = c.args in
+    let u : UsedRecord = used_record a.n a.neighbours.now a.codes.now a.used in
+    let st : Store = record { heads = a.heads.now; neighbours = a.held_neighbours.now; codes = a.held_codes.now } in
+    let R = passed_on _ _ c.from_residual.ensures.1 c.in_err-shared_refusal.ensures in
+    save-refused a.word a.party u a.name st _ R.0 R.1
 
--- the record that is lent
-abbrev lent : Start → UsedRecord
-lent S = used_record S.args.n S.args.neighbours.now S.args.codes.now S.args.used
+pub own_place_for-requires : goal.own_place_for-requires
+own_place_for-requires c =
+    let a = c.args in
+    let u : UsedRecord = used_record a.n a.neighbours.now a.codes.now a.used in
+    let st : Store = record { heads = a.heads.now; neighbours = a.held_neighbours.now; codes = a.held_codes.now } in
+    search-fits a.word a.party u a.name st _ c.in_ok-shared_refusal.ensures refl
 
--- the store that is lent
-abbrev store : Start → Store
-store S = record { heads = S.args.heads.now; neighbours = S.args.held_neighbours.now; codes = S.args.held_codes.now }
-
-pub returns-then-early-ne0 : goal.returns-then-early-ne0
-returns-then-early-ne0 c =
-    let S = c.before.before.before.before.before.before.before.before in
-    save-refused S.args.word S.args.party (lent S) S.args.name (store S) _
-    c.shared_refusal-early.ensures c.if-early-ne0.true
-
-pub own_place_for-place-requires : goal.own_place_for-place-requires
-own_place_for-place-requires c =
-    let S = c.before.before.before.before.before.before.before.before in
-    search-fits S.args.word S.args.party (lent S) S.args.name (store S) _
-    c.shared_refusal-early.ensures c.if-early-ne0.false
-
-pub returns-then-place-ge4 : goal.returns-then-place-ge4
-returns-then-place-ge4 c =
-    let S = c.before.before.before.before.before.before.before.before.before.before in
-    save-full S.args.word S.args.party (lent S) S.args.name (store S) _
-    c.shared_refusal-early.ensures c.if-early-ne0.false _ c.own_place_for-place.ensures
-    c.if-place-ge4.true
+pub returns-in_default : goal.returns-in_default
+returns-in_default c =
+    let a = c.args in
+    let u : UsedRecord = used_record a.n a.neighbours.now a.codes.now a.used in
+    let st : Store = record { heads = a.heads.now; neighbours = a.held_neighbours.now; codes = a.held_codes.now } in
+    save-full a.word a.party u a.name st _ c.in_ok-shared_refusal.ensures refl _ c.in_default.ensures.place
+    (omega arith)
 
 pub put_masked-requires : goal.put_masked-requires
 put_masked-requires c =
-    let S = c.before.before.before.before.before.before.before.before.before.before.before.before.before.before in let whole = put-fits S.args.word S.args.party (lent S) S.args.name (store S) _
-    c.shared_refusal-early.ensures c.if-early-ne0.false _ c.own_place_for-place.ensures
-    c.if-place-ge4.false in record { i_bound = whole.0; heads_len = whole.1 }
+    let a = c.args in
+    let u : UsedRecord = used_record a.n a.neighbours.now a.codes.now a.used in
+    let st : Store = record { heads = a.heads.now; neighbours = a.held_neighbours.now; codes = a.held_codes.now } in
+    let whole = put-fits a.word a.party u a.name st _ c.in_ok-shared_refusal.ensures refl _ c.in-Some.ensures.place
+    c.in-Some.ensures.within in
+    record { i_bound = whole.0; heads_len = whole.1 }
 
 pub returns : goal.returns
 returns c =
-    let S = c.before.before.before.before.before.before.before.before.before.before.before.before.before.before.before.before.before.before.before.before.before in
-    save-done S.args.word S.args.party (lent S) S.args.name (store S) _
-    c.shared_refusal-early.ensures c.if-early-ne0.false _ c.own_place_for-place.ensures
-    c.if-place-ge4.false _ c.own_word.ensures _ c.put_masked.ensures
+    let a = c.args in
+    let u : UsedRecord = used_record a.n a.neighbours.now a.codes.now a.used in
+    let st : Store = record { heads = a.heads.now; neighbours = a.held_neighbours.now; codes = a.held_codes.now } in
+    save-done a.word a.party u a.name st _ c.in_ok-shared_refusal.ensures refl _ c.in-Some.ensures.place
+    c.in-Some.ensures.within _ c.own_word.ensures _ c.put_masked.ensures

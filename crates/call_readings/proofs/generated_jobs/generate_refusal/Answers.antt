@@ -1,4 +1,4 @@
--- `generate_refusal` meets its contract: the first line that holds; 0 where none does.
+-- `generate_refusal` meets its contract: the first line that holds; `Ok` where none does.
 use mathlib.Core.Path.{sym, ◌∙◌}
 use borrow.Author.Tests.{eq-eqb, le-ltb, lt-ltb, ne_eqb}
 use Rattle.buffers.proofs.Fitting.{first-is}

@@ -9,15 +9,18 @@ use Rattle.orbits.specs.Numbers.{graph_count}
 use Rattle.orbits.specs.Orbits.{orbit_list}
 use Rattle.calls.proofs.AcceptedGraphs.{accepted-graph}
 use Rattle.buffers.proofs.Calling.{done, refused}
+use Rattle.buffers.proofs.RefusalLaws.{passed_on}
 use Rattle.call_readings.proofs.orbit_lists.orbit.Goals as goal
 
-pub returns-then-number-ne0 : goal.returns-then-number-ne0
-returns-then-number-ne0 c = refused _ c.orbit_refusal-number.ensures c.if-number-ne0.true (refl, (refl, tt))
+pub returns-in_err-orbit_refusal : goal.returns-in_err-orbit_refusal
+returns-in_err-orbit_refusal c =
+    let R = passed_on _ _ c.from_residual.ensures.1 c.in_err-orbit_refusal.ensures in
+    refused _ R.0 R.1 (refl, (refl, tt))
 
 pub graph_number-start-requires : goal.graph_number-start-requires
 graph_number-start-requires c =
     let a = c.args in
-    let A = accepted-graph a.n a.neighbours.now a.list.now (sym c.orbit_refusal-number.ensures ∙ c.if-number-ne0.false)
+    let A = accepted-graph a.n a.neighbours.now a.list.now (sym c.in_ok-orbit_refusal.ensures)
     in
     (A.positive, A.few, A.words)
 
@@ -25,7 +28,7 @@ pub write_orbit-requires : goal.write_orbit-requires
 write_orbit-requires c =
     let a = c.args in
     let A = accepted-graph a.n a.neighbours.now a.list.now
-    (sym c.orbit_refusal-number.ensures ∙ c.if-number-ne0.false) in (
+    (sym c.in_ok-orbit_refusal.ensures) in (
       A.positive,
       A.few,
       subst (λ g. g < graph_count a.n) (sym c.graph_number-start.ensures) (number_lt a.n _),
@@ -35,7 +38,7 @@ write_orbit-requires c =
 pub returns : goal.returns
 returns c =
     let a = c.args in
-    done _ c.orbit_refusal-number.ensures c.if-number-ne0.false (
+    done _ c.in_ok-orbit_refusal.ensures refl (
       c.write_orbit.ensures.0 ∙ ap (λ g. written (orbit_list a.n g) a.list.now) c.graph_number-start.ensures,
       (c.write_orbit.ensures.1 ∙ ap (λ g. length (orbit_list a.n g)) c.graph_number-start.ensures, tt),
     )

@@ -1,6 +1,4 @@
--- `orbit_refusal` meets its contract: the first line that holds; 0 where none does.
-use native.Mathlib.Omega.{arith}
-use Rattle.calls.proofs.AcceptedGraphs.{both-lengths, few-vertices}
+-- `orbit_refusal` meets its contract: the first line that holds; `Ok` where none does.
 use Rattle.buffers.proofs.Fitting.{first-is}
 use Rattle.buffers.specs.Answers.{here, later, none}
 use Rattle.stabilizer.proofs.EarlyLines.{says}
@@ -12,21 +10,10 @@ returns-then-n c = first-is (here c.if-n.true)
 pub returns-then-neighbours-vertices : goal.returns-then-neighbours-vertices
 returns-then-neighbours-vertices c = first-is (later c.if-n.false (here c.if-neighbours-vertices.true))
 
-pub strays-requires : goal.strays-requires
-strays-requires c =
-    let k = few-vertices _ c.if-n.false in
-    (k.0, omega (arith, k.1))
-
 pub returns-then-strays : goal.returns-then-strays
 returns-then-strays c =
     first-is (later c.if-n.false (later c.if-neighbours-vertices.false
     (here (says c.strays.ensures c.if-strays.true))))
-
-pub not_simple-requires : goal.not_simple-requires
-not_simple-requires c =
-    let a = c.args in
-    let k = few-vertices _ c.if-n.false in
-    (k.0, omega (arith, k.1), (both-lengths a.n a.neighbours.now a.list.now c.if-neighbours-vertices.false).0)
 
 pub returns-then-not_simple : goal.returns-then-not_simple
 returns-then-not_simple c =

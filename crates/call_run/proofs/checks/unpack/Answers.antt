@@ -8,24 +8,13 @@ pub loop-k-init : goal.loop-k-init
 loop-k-init c = told_none _ _ _ c.requires.0 c.requires.1
 
 pub bounds-outcomes-k : goal.bounds-outcomes-k
-bounds-outcomes-k c =
-    let A = c.before.before in
-    omega (arith, c.loop-k-test.true, A.loop-k.invariant.numbers.long, A.loop-k.invariant.bits.long)
+bounds-outcomes-k c = omega (arith, c.loop-k.invariant.numbers.long, c.loop-k.invariant.bits.long)
 
 pub bounds-determined-k : goal.bounds-determined-k
-bounds-determined-k c =
-    let A = c.before.before in
-    omega (arith, c.loop-k-test.true, A.loop-k.invariant.numbers.long, A.loop-k.invariant.marks.long)
-
-pub loop-k-smaller : goal.loop-k-smaller
-loop-k-smaller c =
-    let A = c.before.before in
-    omega (arith, c.loop-k-test.true, A.loop-k.invariant.numbers.long)
+bounds-determined-k c = omega (arith, c.loop-k.invariant.numbers.long, c.loop-k.invariant.marks.long)
 
 pub loop-k-preserved : goal.loop-k-preserved
-loop-k-preserved c =
-    let A = c.before.before in
-    told-next _ _ _ _ _ A.loop-k.invariant (omega (arith, c.loop-k-test.true, A.loop-k.invariant.numbers.long))
+loop-k-preserved c = told-next _ _ _ _ _ c.loop-k.invariant (omega (arith, c.loop-k.invariant.numbers.long))
 
 pub shape_of-answers : goal.shape_of-answers
 shape_of-answers c = c.loop-k.invariant.numbers.long
@@ -37,4 +26,4 @@ pub shape_of-determined : goal.shape_of-determined
 shape_of-determined c = c.loop-k.invariant.marks.long ∙ sym c.requires.1
 
 pub returns : goal.returns
-returns c = told-all _ _ _ _ _ c.loop-k.invariant c.loop-k-test.false
+returns c = told-all _ _ _ _ _ c.loop-k.invariant (omega (arith, c.loop-k.invariant.numbers.long))

@@ -33,7 +33,7 @@ loop-k-preserved c =
     record {
       count = omega arith;
       ran = rw add-one (ran-next (used_record a.n a.neighbours.now a.codes.now a.used) a.steps.now l.k a.at _
-          c.loop-k-test.true a.answers.now c.requires.0 l.neighbours l.codes l.word l.answers l.invariant.ran _ _ _ _
+          (omega arith) a.answers.now c.requires.0 l.neighbours l.codes l.word l.answers l.invariant.ran _ _ _ _
           c.turn-word.ensures);
     }
 
@@ -42,4 +42,4 @@ returns c =
     let a = c.args in
     let l = c.loop-k in
     subst (λ t. WaitingRun (used_record a.n a.neighbours.now a.codes.now a.used) t a.at a.answers.now l.neighbours
-    l.codes l.word l.answers) (take_all l.k a.steps.now c.loop-k-test.false) l.invariant.ran
+    l.codes l.word l.answers) (take_all l.k a.steps.now (omega arith)) l.invariant.ran

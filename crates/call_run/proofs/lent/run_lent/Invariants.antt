@@ -1,5 +1,5 @@
 -- `run_lent`: after k of the steps.
-use Rattle.std.proofs.Common.{length, ◌-◌, ◌≤◌, take}
+use Rattle.std.proofs.Common.{length, ◌≤◌, take}
 use Rattle.call_run.specs.internal.LentRuns.{WaitingRun}
 use Rattle.operations.specs.Used.{used_record}
 use Rattle.call_run.proofs.lent.run_lent.Given as goal
@@ -10,6 +10,3 @@ invariant-loop-k l = record {
   ran : WaitingRun (used_record l.n l.fn.neighbours l.fn.codes l.used) (take l.k l.steps) l.at l.fn.answers
       l.neighbours l.codes l.word l.answers;
 }
-
-abbrev pub decreases-loop-k : goal.decreases-loop-k
-decreases-loop-k l = length l.steps - l.k

@@ -1,5 +1,6 @@
 -- `run_numbers` meets its contract: the first steps of the slices, on a record in place.
 use native.Mathlib.Omega.{arith}
+use Rattle.std.proofs.lemmas.List.{length-take}
 use Rattle.jobs.proofs.ParallelLaws.{steps-long}
 use Rattle.jobs.specs.Parallel.{steps_in}
 use Rattle.call_run.proofs.LastRecord.{first-ready}
@@ -14,39 +15,38 @@ loop-k-init c =
     record { ran = run_none u _ _ _; ready = first-ready _ u c.requires.3 }
 
 pub block_at-block-requires : goal.block_at-block-requires
-block_at-block-requires c =
-    let m = c.block_length-m.ensures in
-    (m.2, omega (arith, m.1, c.loop-k-test.true, c.requires.0), c.requires.2)
+block_at-block-requires c = (omega arith, omega (arith, c.loop-k-test.true, c.requires.0), c.requires.2)
 
-pub run_block-word-requires : goal.run_block-word-requires
-run_block-word-requires c =
-    let m = c.block_length-m.ensures in (
-      m.2,
-      (
-        omega (arith, m.1, c.loop-k-test.true, c.loop-k.auto.answers, c.requires.1),
-        c.loop-k.invariant.ready,
-      ),
-    )
+pub run_lent-word-requires : goal.run_lent-word-requires
+run_lent-word-requires c = (
+  omega (
+    arith,
+    length-take c.min-m.result c.block_at-block.result,
+    c.loop-k-test.true,
+    c.loop-k.auto.answers,
+    c.requires.1,
+  ),
+  c.loop-k.invariant.ready,
+)
 
 pub loop-k-smaller : goal.loop-k-smaller
-loop-k-smaller c = omega (arith, c.block_length-m.ensures.0, c.loop-k-test.true)
+loop-k-smaller c = omega (arith, c.loop-k-test.true)
 
 pub loop-k-preserved : goal.loop-k-preserved
 loop-k-preserved c =
     let a = c.args in
     let u = used_record a.n a.neighbours.now a.codes.now a.used in
     let l = c.loop-k in
-    let m = c.block_length-m.ensures in
     record {
       ran = run-block-more u (steps_in a.ops.now a.a.now a.b.now a.value.now) a.count a.answers.now l.k
-          c.block_length-m.result (omega (arith, m.1, c.loop-k-test.true))
+          c.min-m.result (omega (arith, c.loop-k-test.true))
           (omega (arith, c.requires.0, steps-long a.ops.now a.a.now a.b.now a.value.now)) c.requires.1
-          c.block_at-block.result c.block_at-block.ensures _ _ _ _ l.invariant.ran _ _ _ _ c.run_block-word.ensures;
-      ready = block-ready (used_record a.n l.neighbours l.codes l.word) l.k c.block_length-m.result
+          c.block_at-block.result c.block_at-block.ensures _ _ _ _ l.invariant.ran _ _ _ _ c.run_lent-word.ensures;
+      ready = block-ready (used_record a.n l.neighbours l.codes l.word) l.k c.min-m.result
           c.block_at-block.result (filled-inside l.k _ _ (steps_in a.ops.now a.a.now a.b.now a.value.now)
           c.block_at-block.ensures
-          (omega (arith, m.1, c.loop-k-test.true, c.requires.0, steps-long a.ops.now a.a.now a.b.now a.value.now)))
-          _ _ _ _ _ c.run_block-word.ensures l.invariant.ready;
+          (omega (arith, c.loop-k-test.true, c.requires.0, steps-long a.ops.now a.a.now a.b.now a.value.now)))
+          _ _ _ _ _ c.run_lent-word.ensures l.invariant.ready;
     }
 
 pub settle_last-requires : goal.settle_last-requires

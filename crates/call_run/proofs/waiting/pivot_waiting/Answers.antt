@@ -11,4 +11,4 @@ pivot_known-requires c = subst UsedUnrefused (sym c.settle_waiting.ensures) c.re
 pub returns : goal.returns
 returns c =
     call-as _ _ (pivot_of c.args.j c.args.k) c.pivot_known.new.neighbours c.pivot_known.new.codes
-    c.pivot_known.result c.settle_waiting.ensures c.pivot_known.ensures
+    _ c.settle_waiting.ensures c.pivot_known.ensures

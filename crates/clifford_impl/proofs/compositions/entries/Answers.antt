@@ -7,16 +7,12 @@ use Rattle.clifford_impl.proofs.compositions.entries.Goals as goal
 pub loop-b-init : goal.loop-b-init
 loop-b-init c = fill_start _ _ _ refl
 
-pub loop-b-smaller : goal.loop-b-smaller
-loop-b-smaller c = omega (arith, c.loop-b-test.true)
-
 pub loop-b-preserved : goal.loop-b-preserved
 loop-b-preserved c =
-    let inside = c.before.before.before in
-    let l = inside.loop-b in
-    fill_step _ _ l.row l.b _ l.invariant inside.loop-b-test.true refl
+    let l = c.loop-b in
+    fill_step _ _ l.row l.b _ l.invariant (omega arith) refl
 
 pub returns : goal.returns
 returns c =
     let l = c.loop-b in
-    all-filled 0 24 _ l.row l.b 24 l.invariant c.loop-b-test.false
+    all-filled 0 24 _ l.row l.b 24 l.invariant (omega arith)

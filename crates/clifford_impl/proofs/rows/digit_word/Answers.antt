@@ -4,7 +4,7 @@ use native.Mathlib.Omega.{arith}
 use lib.ListN.{get_or}
 use Rattle.words.proofs.BitLaws.{digit_lt}
 use Rattle.words.specs.Bits.{bit}
-use Rattle.clifford_impl.proofs.RowDigits.{digits-all, digits-none, digits-one, digits-room}
+use Rattle.clifford_impl.proofs.RowDigits.{digits-none, digits-one, digits-room}
 use Rattle.clifford_impl.proofs.rows.digit_word.Goals as goal
 
 pub loop-q-init : goal.loop-q-init
@@ -14,9 +14,6 @@ pub overflow_mul-word : goal.overflow_mul-word
 overflow_mul-word c =
     let l = c.loop-q in
     omega (arith, digits-room _ _ l.word l.q l.invariant c.requires.0 c.loop-q-test.true)
-
-pub bounds-codes-q : goal.bounds-codes-q
-bounds-codes-q c = omega (arith, c.loop-q.invariant.upto, c.loop-q-test.true)
 
 pub overflow_add-word : goal.overflow_add-word
 overflow_add-word c =
@@ -34,6 +31,3 @@ loop-q-preserved c =
     let l = c.loop-q in
     digits-one _ _ l.word l.q c.digit_of.result l.invariant c.loop-q-test.true
     c.digit_of.ensures
-
-pub returns : goal.returns
-returns c = digits-all _ _ c.loop-q.word c.loop-q.q c.loop-q.invariant c.loop-q-test.false

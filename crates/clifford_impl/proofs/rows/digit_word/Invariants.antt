@@ -4,6 +4,3 @@ use Rattle.clifford_impl.proofs.rows.digit_word.Given as goal
 
 abbrev pub invariant-loop-q : goal.invariant-loop-q
 invariant-loop-q l = DigitsFrom l.codes l.k l.word l.q
-
-abbrev pub decreases-loop-q : goal.decreases-loop-q
-decreases-loop-q l = l.q

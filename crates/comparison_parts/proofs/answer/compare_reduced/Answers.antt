@@ -1,10 +1,18 @@
 -- `compare_reduced` meets its contract: the comparison of two reduced records: 3 where there is a limit and a part of
 -- either has more than 20 vertices, 13, or the least choice, the complementation list and its count.
-use mathlib.Core.Path.{refl, subst, sym}
-use Prim.Native.Nat.{◌≤◌}
+use mathlib.Core.Bool.{false, true}
+use mathlib.Core.List.{[]}
+use mathlib.Core.Path.{ap, refl, subst, sym, ◌∙◌, ◌≡◌}
 use native.Mathlib.Omega.{arith}
-use borrow.Author.Tests.{not-false, not-true}
+use lib.ListN.{length}
+use Rattle.std.specs.Option.{is_some, ok_or, unwrap_or}
+use Rattle.buffers.specs.internal.Numbers.{number_of}
+use Rattle.buffers.specs.declared.refusals.Refusal.TheVariants.{Inequivalent}
+use Rattle.buffers.proofs.RefusalLaws.{passed_on}
 use Rattle.buffers.proofs.Parts.{part-long}
+use Rattle.comparison.specs.internal.ComparedPairs.{PairAnswered}
+use Rattle.comparison.specs.internal.Searches.{LeastAnswer}
+use Rattle.comparison.specs.internal.Setting.{held_generators}
 use Rattle.record.specs.Graph.{Simple}
 use Rattle.record.specs.NeighbourWords.{graph_in}
 use Rattle.comparison_parts.proofs.ReducedPairs.{accepted-pair, choice-long, choice-written, chosen-codes, large-tests, pair-accepted, pair-large, pair-refused}
@@ -33,52 +41,58 @@ returns-then-too_large c =
     c.requires.accepted_record_2.neighbours-length c.too_large.ensures c.if-too_large.true) R R₂ H H₂ a.choice.now
     a.list.now a.count.now
 
-pub compare_parts-least-requires : goal.compare_parts-least-requires
-compare_parts-least-requires c =
+pub compare_parts-requires : goal.compare_parts-requires
+compare_parts-requires c =
     let a = c.args in (
       c.requires.accepted_record.positive,
       accepted-pair a.n a.neighbours.now a.codes.now a.neighbours2.now
           a.codes2.now c.requires.accepted_record c.requires.accepted_record_2,
     )
 
-pub returns-then-not-least : goal.returns-then-not-least
-returns-then-not-least c =
+pub returns-in_err-least : goal.returns-in_err-least
+returns-in_err-least c =
     let a = c.args in
     let small = (large-tests a.limited a.n a.neighbours.now a.neighbours2.now _ _
     c.requires.accepted_record.neighbours-length
     c.requires.accepted_record_2.neighbours-length c.too_large.ensures c.if-too_large.false) in
-    λ R R₂ H H₂. pair-refused a.limited a.n a.neighbours.now a.codes.now a.neighbours2.now
+    let none = c.in_err-least.ensures.ok_part in
+    let L = subst (λ r. LeastAnswer a.n (held_generators a.n a.neighbours.now a.codes.now)
+    (held_generators a.n a.neighbours2.now a.codes2.now) (is_some r) (unwrap_or r [])) none c.compare_parts.ensures in
+    let P = passed_on _ _ c.from_residual.ensures.1
+    (ap number_of (c.in_err-least.ensures.value ∙ ap (λ r. ok_or r Inequivalent) none)) in
+    λ R R₂ H H₂. subst (λ k. PairAnswered a.limited a.n R R₂ a.choice.now a.list.now a.count.now k a.choice.now a.list.now
+    a.count.now) (sym P.0)
+    (pair-refused a.limited a.n a.neighbours.now a.codes.now a.neighbours2.now
     a.codes2.now c.requires.accepted_record c.requires.accepted_record_2 small
-    c.compare_parts-least.result.found c.compare_parts-least.result.choice c.compare_parts-least.ensures R R₂ H H₂
-    a.choice.now a.list.now a.count.now (not-true _ c.if-not-least.true)
+    false [] L R R₂ H H₂ a.choice.now a.list.now a.count.now refl)
 
-pub slice_bounds-induced_image-end : goal.slice_bounds-induced_image-end
-slice_bounds-induced_image-end c =
-    sym (part-long _ _ c.requires.accepted_record.upto refl)
-
-pub induced_image-answer-requires : goal.induced_image-answer-requires
-induced_image-answer-requires c =
+pub induced_image-listed-requires : goal.induced_image-listed-requires
+induced_image-listed-requires c =
     let a = c.args in
     let small = (large-tests a.limited a.n a.neighbours.now a.neighbours2.now _ _
     c.requires.accepted_record.neighbours-length
     c.requires.accepted_record_2.neighbours-length c.too_large.ensures c.if-too_large.false) in
-    let x = c.compare_parts-least.result.choice in
-    let e = choice-written a.n x a.choice.now _ c.requires.choice_len.0 c.copy_bytes.ensures in record {
+    let least = c.in_ok-least.least in
+    let L = subst (λ r. LeastAnswer a.n (held_generators a.n a.neighbours.now a.codes.now)
+    (held_generators a.n a.neighbours2.now a.codes2.now) (is_some r) (unwrap_or r []))
+    c.in_ok-least.ensures.ok_part c.compare_parts.ensures in
+    let long : length least ≡ 64 = omega arith in
+    let e = choice-written a.n least a.choice.now _ c.requires.choice_len.0
+    (omega (arith, long, c.requires.accepted_record.upto)) c.copy_first.ensures in
+    record {
       accepted_record = c.requires.accepted_record;
-      choice_len = (choice-long a.n x _ e, c.requires.accepted_record_2.codes-length, part-long _ _ c.requires.accepted_record.upto refl);
+      choice_len = (
+        choice-long a.n least _ e,
+        c.requires.accepted_record_2.codes-length,
+        part-long _ _ c.requires.accepted_record.upto refl,
+        refl,
+      );
       codes = (
         chosen-codes a.limited a.n a.neighbours.now a.codes.now a.neighbours2.now a.codes2.now
-            c.requires.accepted_record c.requires.accepted_record_2 small
-            c.compare_parts-least.result.found c.compare_parts-least.result.choice c.compare_parts-least.ensures
-            (not-false _ c.if-not-least.false) _ e,
+            c.requires.accepted_record c.requires.accepted_record_2 small true least L refl _ e,
         c.requires.accepted_record_2.codes-below,
       );
     }
-
-pub copy_list-requires : goal.copy_list-requires
-copy_list-requires c =
-    let I = c.induced_image-answer.ensures in
-    (I.room, subst (λ k. c.induced_image-answer.result.count ≤ k) (sym c.requires.choice_len.1) I.room)
 
 pub returns : goal.returns
 returns c =
@@ -86,10 +100,14 @@ returns c =
     let small = (large-tests a.limited a.n a.neighbours.now a.neighbours2.now _ _
     c.requires.accepted_record.neighbours-length
     c.requires.accepted_record_2.neighbours-length c.too_large.ensures c.if-too_large.false) in
-    let x = c.compare_parts-least.result.choice in
-    let e = choice-written a.n x a.choice.now _ c.requires.choice_len.0 c.copy_bytes.ensures in
+    let least = c.in_ok-least.least in
+    let L = subst (λ r. LeastAnswer a.n (held_generators a.n a.neighbours.now a.codes.now)
+    (held_generators a.n a.neighbours2.now a.codes2.now) (is_some r) (unwrap_or r []))
+    c.in_ok-least.ensures.ok_part c.compare_parts.ensures in
+    let long : length least ≡ 64 = omega arith in
+    let e = choice-written a.n least a.choice.now _ c.requires.choice_len.0
+    (omega (arith, long, c.requires.accepted_record.upto)) c.copy_first.ensures in
     λ R R₂ H H₂. pair-accepted a.limited a.n a.neighbours.now a.codes.now a.neighbours2.now
-    a.codes2.now c.requires.accepted_record c.requires.accepted_record_2 small
-    c.compare_parts-least.result.found c.compare_parts-least.result.choice c.compare_parts-least.ensures R R₂ H H₂
-    (not-false _ c.if-not-least.false) _ e _ c.induced_image-answer.ensures a.choice.now a.list.now _ a.count.now _
-    c.copy_list.ensures refl
+    a.codes2.now c.requires.accepted_record c.requires.accepted_record_2 small true least L R R₂ H H₂
+    refl _ e _ _ c.induced_image-listed.ensures a.choice.now a.list.now _ a.count.now _
+    c.copy_front.ensures refl

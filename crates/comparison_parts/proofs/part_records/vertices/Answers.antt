@@ -4,14 +4,10 @@ use Prim.Native.Nat.{◌<◌}
 use native.Mathlib.Omega.{arith}
 use Rattle.words.proofs.BitLaws.{flip-less}
 use Rattle.comparison_parts.proofs.Listing.{Listing, listing-end, listing_start, listing_step, place-below, place-taken, room}
-use borrow.Author.Rules.{rules}
 use Rattle.comparison_parts.proofs.part_records.vertices.Goals as goal
 
 pub loop-rest-init : goal.loop-rest-init
 loop-rest-init c = listing_start c.args.component _ refl c.ranges.component.fits
-
-pub overflow_cast-at : goal.overflow_cast-at
-overflow_cast-at c = let few = c.smallest-q.ensures.1 in search rules
 
 pub bounds-at-k : goal.bounds-at-k
 bounds-at-k c =

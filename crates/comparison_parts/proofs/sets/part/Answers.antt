@@ -5,26 +5,26 @@ use Rattle.record.specs.NeighbourWords.{graph_in}
 use Rattle.comparison_parts.proofs.Spreading.{grow-less, grow-more, grow-start, grown}
 use Rattle.comparison_parts.proofs.sets.part.Goals as goal
 
-pub loop-next-init : goal.loop-next-init
-loop-next-init c =
+pub loop-reached-init : goal.loop-reached-init
+loop-reached-init c =
     let nb = c.args.neighbours.now in
-    grow-start (length nb) (graph_in nb) c.requires.simple c.args.q c.requires.neighbours_len_bound.1 _ _ c.single-reached.ensures
-    c.spread-next.ensures
+    grow-start (length nb) (graph_in nb) c.requires.simple c.args.q c.requires.neighbours_len_bound.1 _
+    c.single-reached.ensures
 
-pub loop-next-smaller : goal.loop-next-smaller
-loop-next-smaller c =
+pub loop-reached-smaller : goal.loop-reached-smaller
+loop-reached-smaller c =
     let nb = c.args.neighbours.now in
-    grow-less (length nb) (graph_in nb) c.requires.simple c.args.q c.requires.neighbours_len_bound.1 _ _ c.loop-next.invariant
-    c.loop-next-test.true
+    grow-less (length nb) (graph_in nb) c.requires.simple c.args.q c.requires.neighbours_len_bound.1 _ _
+    c.loop-reached.invariant c.spread-next.ensures c.if-next-reached.false
 
-pub loop-next-preserved : goal.loop-next-preserved
-loop-next-preserved c =
+pub loop-reached-preserved : goal.loop-reached-preserved
+loop-reached-preserved c =
     let nb = c.args.neighbours.now in
-    grow-more (length nb) (graph_in nb) c.requires.simple c.args.q c.requires.neighbours_len_bound.1 _ _ c.loop-next.invariant _
-    c.spread-next-in-loop-next.ensures
+    grow-more (length nb) (graph_in nb) c.requires.simple c.args.q c.requires.neighbours_len_bound.1 _ _
+    c.loop-reached.invariant c.spread-next.ensures
 
-pub returns : goal.returns
-returns c =
+pub returns-then-next-reached : goal.returns-then-next-reached
+returns-then-next-reached c =
     let nb = c.args.neighbours.now in
-    grown (length nb) (graph_in nb) c.requires.simple c.args.q c.requires.neighbours_len_bound.1 _ _ c.loop-next.invariant
-    c.loop-next-test.false
+    grown (length nb) (graph_in nb) c.requires.simple c.args.q c.requires.neighbours_len_bound.1 _ _
+    c.loop-reached.invariant c.spread-next.ensures c.if-next-reached.true

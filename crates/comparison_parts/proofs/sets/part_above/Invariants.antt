@@ -1,5 +1,4 @@
 -- What the loops of `part_above` keep.
-use Prim.Native.Nat.{◌-◌}
 use lib.ListN.{length}
 use Rattle.record.specs.NeighbourWords.{graph_in}
 use Rattle.comparison_parts.proofs.Spreading.{Seen}
@@ -7,6 +6,3 @@ use Rattle.comparison_parts.proofs.sets.part_above.Given as goal
 
 abbrev pub invariant-loop-q : goal.invariant-loop-q
 invariant-loop-q l = Seen (length l.neighbours) (graph_in l.neighbours) l.seen l.q
-
-abbrev pub decreases-loop-q : goal.decreases-loop-q
-decreases-loop-q l = length l.neighbours - l.q

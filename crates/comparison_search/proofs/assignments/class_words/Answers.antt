@@ -1,5 +1,4 @@
 -- `class_words` meets its contract: the words of the classes of a choice.
-use native.Mathlib.Omega.{arith}
 use Rattle.comparison.proofs.PlacedFours.{class-next, no-class-words}
 use Rattle.comparison.proofs.WordsByBits.{all-classes}
 use Rattle.comparison_search.proofs.assignments.class_words.Goals as goal
@@ -7,17 +6,11 @@ use Rattle.comparison_search.proofs.assignments.class_words.Goals as goal
 pub loop-q-init : goal.loop-q-init
 loop-q-init c = no-class-words _ _
 
-pub class_bits-four-requires : goal.class_bits-four-requires
-class_bits-four-requires c = omega (arith, c.requires.1 c.loop-q.q)
-
-pub place-next-requires : goal.place-next-requires
-place-next-requires c = omega (arith, c.requires.0, c.loop-q-test.true)
-
 pub loop-q-preserved : goal.loop-q-preserved
 loop-q-preserved c =
     let l = c.loop-q in
     let more = c.loop-q-test.true in
-    class-next c.args.n c.args.choice l.q l.words c.place-next.result more c.class_bits-four.result
+    class-next c.args.n c.args.choice.now l.q l.words c.place-next.result more c.class_bits-four.result
     c.place-next.ensures c.class_bits-four.ensures l.invariant
 
 pub returns : goal.returns

@@ -1,10 +1,6 @@
 -- What the loops of `class_words` keep.
-use Prim.Native.Nat.{◌-◌}
 use Rattle.comparison.proofs.PlacedFours.{ClassesIn}
 use Rattle.comparison_search.proofs.assignments.class_words.Given as goal
 
 abbrev pub invariant-loop-q : goal.invariant-loop-q
 invariant-loop-q l = ClassesIn l.n l.choice l.q l.words
-
-abbrev pub decreases-loop-q : goal.decreases-loop-q
-decreases-loop-q l = l.n - l.q

@@ -1,5 +1,4 @@
 -- What the loops of `element` keep.
-use Prim.Native.Nat.{◌-◌}
 use Rattle.words.specs.Bits.{bit}
 use Rattle.pauli.specs.internal.Rows.{generator_of}
 use Rattle.comparison.specs.internal.Setting.{generators_in, generators_of}
@@ -8,6 +7,3 @@ use Rattle.comparison_search.proofs.elements.element.Given as goal
 
 abbrev pub invariant-loop-j : goal.invariant-loop-j
 invariant-loop-j l = Multiplied l.n (generators_of (generators_in l.second)) (bit l.w) l.j (generator_of l.h)
-
-abbrev pub decreases-loop-j : goal.decreases-loop-j
-decreases-loop-j l = l.n - l.j

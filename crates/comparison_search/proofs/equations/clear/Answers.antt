@@ -4,7 +4,6 @@ use mathlib.Core.Path.{ap, subst, sym, ◌∙◌}
 use Prim.Native.Nat.{◌+◌}
 use native.Mathlib.Omega.{arith}
 use lib.ListN.{get_or}
-use borrow.Author.Rules.{rules}
 use Rattle.comparison.specs.internal.Equations.{equation_of, equations_in}
 use Rattle.comparison.proofs.QubitEquations.{row_at, row-set}
 use Rattle.comparison_search.proofs.EquationsRows.{Clearing, clear-added, clear_kept, clear-start}
@@ -18,26 +17,6 @@ loop-k-init c = (
   clear-start (equations_in c.args.table.now) c.requires.0 c.args.i _
       (sym (row_at c.args.table.now c.args.i)),
 )
-
-pub bounds-table-k : goal.bounds-table-k
-bounds-table-k c = omega (arith, c.loop-k.invariant.1, c.loop-k-test.true)
-
-pub has_unknown-requires : goal.has_unknown-requires
-has_unknown-requires c = c.loop-k.invariant.0
-
-pub bounds-table-k-then-has_unknown : goal.bounds-table-k-then-has_unknown
-bounds-table-k-then-has_unknown c =
-    omega (
-      arith,
-      c.loop-k.invariant.1,
-      c.loop-k-test.true,
-    )
-
-pub overflow_add-k-in-loop-k : goal.overflow_add-k-in-loop-k
-overflow_add-k-in-loop-k c =
-    let few = c.loop-k.invariant.1 in
-    let more = c.loop-k-test.true in
-    search rules
 
 pub loop-k-smaller : goal.loop-k-smaller
 loop-k-smaller c = omega (arith, c.loop-k-test.true)

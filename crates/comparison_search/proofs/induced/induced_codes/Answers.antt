@@ -2,16 +2,10 @@
 use mathlib.Core.Path.{refl}
 use native.Mathlib.Omega.{arith}
 use Rattle.buffers.proofs.Filling.{fill_end, fill_start, fill_step}
-use Rattle.comparison.specs.internal.Compared.{induced_code}
 use Rattle.comparison_search.proofs.induced.induced_codes.Goals as goal
 
 pub loop-q-init : goal.loop-q-init
 loop-q-init c = fill_start _ _ _ refl
-
-pub induced_code-requires : goal.induced_code-requires
-induced_code-requires c =
-    let q = c.loop-q.q in
-    (c.requires.codes.0 q, c.requires.codes.1 q, c.requires.codes.2 q)
 
 pub loop-q-smaller : goal.loop-q-smaller
 loop-q-smaller c =

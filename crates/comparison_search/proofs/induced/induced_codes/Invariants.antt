@@ -1,5 +1,4 @@
 -- What the loops of `induced_codes` keep.
-use Prim.Native.Nat.{◌-◌}
 use lib.ListN.{length}
 use Rattle.buffers.proofs.Filling.{Filled}
 use Rattle.comparison.specs.internal.Compared.{induced_code}
@@ -7,6 +6,3 @@ use Rattle.comparison_search.proofs.induced.induced_codes.Given as goal
 
 abbrev pub invariant-loop-q : goal.invariant-loop-q
 invariant-loop-q l = Filled (length l.initial.induced) (induced_code l.first l.choice l.second) l.induced l.q
-
-abbrev pub decreases-loop-q : goal.decreases-loop-q
-decreases-loop-q l = length l.initial.induced - l.q

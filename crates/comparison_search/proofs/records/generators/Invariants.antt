@@ -1,6 +1,5 @@
 -- What the loops of `generators` keep.
 use mathlib.Core.Path.{◌≡◌}
-use Prim.Native.Nat.{◌-◌}
 use Rattle.buffers.proofs.Filling.{FilledBy}
 use Rattle.pauli.specs.internal.Rows.{generator_of}
 use Rattle.record.specs.Lent.{held_rows, lent_record}
@@ -11,6 +10,3 @@ abbrev pub invariant-loop-j : goal.invariant-loop-j
 invariant-loop-j l =
     FilledBy no_generator 64
     (λ i g. generator_of g ≡ held_rows (lent_record l.n l.neighbours l.codes) i) (generators_in l.rows) l.j
-
-abbrev pub decreases-loop-j : goal.decreases-loop-j
-decreases-loop-j l = l.n - l.j

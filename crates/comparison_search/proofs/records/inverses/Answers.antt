@@ -10,9 +10,6 @@ use Rattle.comparison_search.proofs.records.inverses.Goals as goal
 pub loop-q-init : goal.loop-q-init
 loop-q-init c = (zeros-codes 64, fill_start 64 _ _ refl)
 
-pub inverse-undone-requires : goal.inverse-undone-requires
-inverse-undone-requires c = c.requires.2 c.loop-q.q
-
 pub loop-q-preserved : goal.loop-q-preserved
 loop-q-preserved c =
     let l = c.loop-q in

@@ -1,5 +1,4 @@
 -- What the loops of `inverses` keep.
-use Prim.Native.Nat.{◌-◌}
 use Rattle.buffers.proofs.Filling.{Filled}
 use Rattle.clifford.specs.Clifford.{code_of, inverse}
 use Rattle.clifford.specs.Vectors.{codes_of}
@@ -8,6 +7,3 @@ use Rattle.comparison_search.proofs.records.inverses.Given as goal
 
 abbrev pub invariant-loop-q : goal.invariant-loop-q
 invariant-loop-q l = Codes l.all × Filled 64 (λ i. code_of (inverse (codes_of l.codes i))) l.all l.q
-
-abbrev pub decreases-loop-q : goal.decreases-loop-q
-decreases-loop-q l = l.n - l.q

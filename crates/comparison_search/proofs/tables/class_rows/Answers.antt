@@ -8,9 +8,6 @@ use Rattle.comparison_search.proofs.tables.class_rows.Goals as goal
 pub loop-j-init : goal.loop-j-init
 loop-j-init c = (c.requires.1, (λ first i e T. T))
 
-pub insert-requires : goal.insert-requires
-insert-requires c = (c.requires.0, c.loop-j.invariant.0)
-
 pub loop-j-preserved : goal.loop-j-preserved
 loop-j-preserved c =
     let a = c.args in

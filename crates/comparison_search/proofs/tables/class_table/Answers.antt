@@ -19,9 +19,6 @@ loop-i-init c =
           (empty-solved _ c.requires.1),
     )
 
-pub class_rows-requires : goal.class_rows-requires
-class_rows-requires c = (c.requires.0, c.loop-i.invariant.1.triangular)
-
 pub loop-i-preserved : goal.loop-i-preserved
 loop-i-preserved c =
     let a = c.args in

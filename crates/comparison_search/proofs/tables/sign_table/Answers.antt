@@ -1,12 +1,11 @@
 -- `sign_table` meets its contract: the sign equations put into an empty table, for classes that send each generator
 -- into the second group up to a sign.
 use mathlib.Core.Bool.{beq, not}
-use mathlib.Core.Path.{ap, subst, sym, ◌∙◌}
+use mathlib.Core.Path.{ap, subst, ◌∙◌}
 use Prim.Native.Nat.{zero-le}
 use native.Mathlib.Nat.{le_antisymm}
 use native.Mathlib.Omega.{arith}
 use lib.ListN.{take}
-use borrow.Author.Rules.{rules}
 use Rattle.clifford.specs.Vectors.{act, codes_of}
 use Rattle.pauli.specs.internal.Rows.{generator_of}
 use Rattle.comparison.specs.internal.Equations.{equation_of, equations_in, sign_equation}
@@ -18,27 +17,18 @@ use Rattle.buffers.proofs.Parts.{part-long}
 use Rattle.comparison_search.proofs.FirstCodes.{first-act, first_frame, first-sound}
 use Rattle.comparison_search.proofs.tables.sign_table.Goals as goal
 
-pub slice_bounds-action_of-end : goal.slice_bounds-action_of-end
-slice_bounds-action_of-end c =
-    sym (part-long _ _ c.requires.setting.0.few
-    c.well_formed.1.1.1.1.1.0.1.0.1)
-
 pub action_of-by-requires : goal.action_of-by-requires
 action_of-by-requires c =
     let few = c.requires.setting.0.few in (
-      omega (arith, few, part-long c.args.n c.args.choice few c.well_formed.1.1.1.1.1.0.1.0.1),
-      first-sound c.args.n c.args.choice c.requires.setting.1,
+      omega (arith, few, part-long c.args.n c.args.choice.now few c.told-choice),
+      first-sound c.args.n c.args.choice.now c.requires.setting.1,
     )
-
-pub slice_bounds-action_of-end-2 : goal.slice_bounds-action_of-end-2
-slice_bounds-action_of-end-2 c =
-    sym (part-long _ _ c.requires.setting.0.few c.well_formed.1.1.1.1.0.1.0.1)
 
 pub action_of-undone-requires : goal.action_of-undone-requires
 action_of-undone-requires c =
     let few = c.requires.setting.0.few in (
-      omega (arith, few, part-long c.args.n c.args.frame few c.well_formed.1.1.1.1.0.1.0.1),
-      first-sound c.args.n c.args.frame c.requires.setting.0.codes,
+      omega (arith, few, part-long c.args.n c.args.frame.now few c.told-frame),
+      first-sound c.args.n c.args.frame.now c.requires.setting.0.codes,
     )
 
 pub loop-i-init : goal.loop-i-init
@@ -56,8 +46,8 @@ element-h-requires c =
     let S = c.requires.setting.0 in (
       S.few,
       (
-        codes_of (take c.args.n c.args.frame),
-        first_frame c.args.n c.args.frame _ S.framed,
+        codes_of (take c.args.n c.args.frame.now),
+        first_frame c.args.n c.args.frame.now _ S.framed,
         c.action_of-undone.ensures,
       ),
     )
@@ -66,15 +56,9 @@ pub insert-requires : goal.insert-requires
 insert-requires c =
     let a = c.args in
     let l = c.loop-i in
-    let T = l.invariant.1 c.args.choice c.args.frame c.requires.setting.0 c.requires.sent_up_to_sign.0 c.requires.setting.2
+    let T = l.invariant.1 c.args.choice.now c.args.frame.now c.requires.setting.0 c.requires.sent_up_to_sign.0 c.requires.setting.2
     c.action_of-by.ensures in
     (c.requires.setting.0.few, T.0.triangular)
-
-pub overflow_add-i : goal.overflow_add-i
-overflow_add-i c =
-    let few = c.requires.setting.0.few in
-    let more = c.loop-i-test.true in
-    search rules
 
 pub loop-i-preserved : goal.loop-i-preserved
 loop-i-preserved c =
@@ -104,8 +88,8 @@ pub returns : goal.returns
 returns c =
     let a = c.args in
     let l = c.loop-i in
-    subst (λ k. SignTable a.n (generators_in a.first.now) (generators_in a.second.now) (codes_of c.args.choice) k
+    subst (λ k. SignTable a.n (generators_in a.first.now) (generators_in a.second.now) (codes_of c.args.choice.now) k
     (equations_in l.table))
     (le_antisymm l.invariant.0 c.loop-i-test.false)
-    (l.invariant.1 c.args.choice c.args.frame c.requires.setting.0 c.requires.sent_up_to_sign.0 c.requires.setting.2
+    (l.invariant.1 c.args.choice.now c.args.frame.now c.requires.setting.0 c.requires.sent_up_to_sign.0 c.requires.setting.2
     c.action_of-by.ensures)

@@ -1,6 +1,6 @@
 -- What the loops of `sign_table` keep.
 use mathlib.Core.List.{List}
-use Prim.Native.Nat.{◌-◌, ◌≤◌, ℕ}
+use Prim.Native.Nat.{◌≤◌, ℕ}
 use lib.ListN.{take}
 use Rattle.clifford.specs.Vectors.{codes_of}
 use Rattle.clifford_impl.specs.internal.Actions.{ActsAs}
@@ -15,6 +15,3 @@ invariant-loop-i l =
     (generators_in l.first) (generators_in l.second) (codes_of choice)
     → NoSigns choice → ActsAs (codes_of (take l.n choice)) l.by → SignTable l.n (generators_in l.first) (generators_in l.second)
     (codes_of choice) l.i (equations_in l.table))
-
-abbrev pub decreases-loop-i : goal.decreases-loop-i
-decreases-loop-i l = l.n - l.i

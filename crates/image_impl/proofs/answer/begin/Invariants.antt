@@ -1,12 +1,7 @@
 -- What the loops of `begin` keep.
-use Prim.Native.Nat.{◌-◌}
-use lib.ListN.{length}
 use Rattle.clifford.specs.Clifford.{bit_c, bit_d}
 use Rattle.image_impl.proofs.CodeBits.{BitsBelow}
 use Rattle.image_impl.proofs.answer.begin.Given as goal
 
 abbrev pub invariant-loop-q : goal.invariant-loop-q
 invariant-loop-q l = BitsBelow l.codes bit_c l.c l.q × BitsBelow l.codes bit_d l.d l.q
-
-abbrev pub decreases-loop-q : goal.decreases-loop-q
-decreases-loop-q l = length l.codes - l.q

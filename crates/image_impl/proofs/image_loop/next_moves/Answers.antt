@@ -1,9 +1,9 @@
--- `next_moves` meets its contract: the next complementations.
-use Prim.Native.Nat.{◌<◌}
+-- `next_moves` meets its contract: the next complementations, if there are any.
 use native.Mathlib.Omega.{arith}
-use lib.ListN.{length}
-use Rattle.image_impl.proofs.NextMoves.{none_done, pair-below, single-done, single-ready, triple-done, triple-ready}
+use Rattle.image_impl.proofs.NextMoves.{none_done, single-done, single-ready, triple-done, triple-ready, where-none}
 use Rattle.image_impl.proofs.TrackedRecords.{tracked-small}
+use mathlib.Core.Path.{refl}
+use native.Mathlib.Nat.{ne_of_lt}
 use Rattle.image_impl.proofs.image_loop.next_moves.Goals as goal
 
 pub complement_at-requires : goal.complement_at-requires
@@ -11,40 +11,30 @@ complement_at-requires c =
     single-ready _ _ c.requires.0 c.requires.1 c.smallest.result c.smallest.ensures.0
     c.if-both-ne0.true
 
-pub returns-then-both-ne0 : goal.returns-then-both-ne0
-returns-then-both-ne0 c =
-    single-done _ _ c.requires.0 c.requires.1 c.smallest.result c.smallest.ensures.0
-    c.if-both-ne0.true _ c.complement_at.ensures
+pub returns-then-both-ne0-clause-some : goal.returns-then-both-ne0-clause-some
+returns-then-both-ne0-clause-some c = (
+  single-done _ _ c.requires.0 c.requires.1 c.smallest.result c.smallest.ensures.0
+      c.if-both-ne0.true _ c.complement_at.ensures,
+  omega (arith, c.complement_at.ensures.count),
+)
 
-pub first_joined-j-requires : goal.first_joined-j-requires
-first_joined-j-requires c = tracked-small _ _ c.requires.0
+pub first_joined-requires : goal.first_joined-requires
+first_joined-requires c = tracked-small _ _ c.requires.0
 
-pub returns-then-j-neighbours : goal.returns-then-j-neighbours
-returns-then-j-neighbours c =
-    none_done _ _ c.requires.0 c.requires.1 c.if-both-ne0.false c.first_joined-j.result
-    c.first_joined-j.ensures c.if-j-neighbours.true
-
-pub offset_bounds-neighbours-j : goal.offset_bounds-neighbours-j
-offset_bounds-neighbours-j c =
-    let small : c.first_joined-j.result < length c.args.neighbours.now =
-    pair-below _ _ c.requires.0 c.requires.1 c.if-both-ne0.false c.first_joined-j.result
-    c.first_joined-j.ensures c.if-j-neighbours.false in
-    omega (arith, tracked-small _ _ c.requires.0)
-
-pub bounds-neighbours-j : goal.bounds-neighbours-j
-bounds-neighbours-j c =
-    let small : c.first_joined-j.result < length c.args.neighbours.now =
-    pair-below _ _ c.requires.0 c.requires.1 c.if-both-ne0.false c.first_joined-j.result
-    c.first_joined-j.ensures c.if-j-neighbours.false in
-    omega arith
+pub returns-in_err-j-clause-none : goal.returns-in_err-j-clause-none
+returns-in_err-j-clause-none c =
+    where-none _ (none_done _ _ c.requires.0 c.requires.1 c.if-both-ne0.false _ c.in_err-j.ensures.none refl)
 
 pub triple_at-requires : goal.triple_at-requires
 triple_at-requires c =
-    let whole = triple-ready _ _ c.requires.0 c.requires.1 c.if-both-ne0.false c.first_joined-j.result
-    c.first_joined-j.ensures c.if-j-neighbours.false c.smallest-k.result c.smallest-k.ensures.0 in record { j_in_bounds = whole.0; k_value = whole.1 }
+    let J = c.in_ok-j.ensures.some in
+    let whole = triple-ready _ _ c.requires.0 c.requires.1 c.if-both-ne0.false _ J.0 (ne_of_lt J.1) c.smallest-k.result
+    c.smallest-k.ensures.0 in record { j_in_bounds = whole.0; k_value = whole.1 }
 
-pub returns : goal.returns
-returns c =
-    triple-done _ _ c.requires.0 c.requires.1 c.if-both-ne0.false c.first_joined-j.result
-    c.first_joined-j.ensures c.if-j-neighbours.false c.smallest-k.result c.smallest-k.ensures.0 _
-    c.triple_at.ensures
+pub returns-clause-some : goal.returns-clause-some
+returns-clause-some c =
+    let J = c.in_ok-j.ensures.some in (
+      triple-done _ _ c.requires.0 c.requires.1 c.if-both-ne0.false _ J.0 (ne_of_lt J.1) c.smallest-k.result
+          c.smallest-k.ensures.0 _ c.triple_at.ensures,
+      omega (arith, c.triple_at.ensures.count),
+    )

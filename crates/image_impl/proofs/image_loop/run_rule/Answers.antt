@@ -1,47 +1,25 @@
 -- `run_rule` meets its contract: the image rule, the next complementations until there are none.
-use mathlib.Core.Path.{sym, ◌∙◌}
+use mathlib.Core.Path.{refl}
 use Rattle.image_impl.proofs.Rounds.{next-ready, reached-start, round-end, round-on}
-use Rattle.image_impl.proofs.TrackedRecords.{tracked-codes}
 use Rattle.image_impl.proofs.image_loop.run_rule.Goals as goal
 
-pub loop-at-init : goal.loop-at-init
-loop-at-init c = reached-start _ _ c.requires.1
+pub loop-next-init : goal.loop-next-init
+loop-next-init c = reached-start _ _ c.requires.1
 
-pub next_moves-next-requires : goal.next_moves-next-requires
-next_moves-next-requires c =
-    next-ready _ _ _ c.requires.0 c.requires.1 c.loop-at.invariant
+pub next_moves-requires : goal.next_moves-requires
+next_moves-requires c =
+    next-ready _ _ _ c.requires.0 c.requires.1 c.loop-next.invariant
 
-pub shape_of-neighbours-then-next-at : goal.shape_of-neighbours-then-next-at
-shape_of-neighbours-then-next-at c =
-    (round-end _ _ _ c.requires.0 c.requires.1 c.loop-at.invariant _
-    c.next_moves-next.ensures
-    c.if-next-at.true).tracking.long
+pub loop-next-smaller : goal.loop-next-smaller
+loop-next-smaller c =
+    let next = c.in-Some.ensures.some in
+    (round-on _ _ _ c.requires.0 c.requires.1 c.loop-next.invariant _ next.0 next.1).1
 
-pub shape_of-codes-then-next-at : goal.shape_of-codes-then-next-at
-shape_of-codes-then-next-at c =
-    tracked-codes _ _ (round-end _ _ _ c.requires.0 c.requires.1 c.loop-at.invariant _
-    c.next_moves-next.ensures c.if-next-at.true).tracking ∙ sym (tracked-codes _ _ c.requires.1)
+pub loop-next-preserved : goal.loop-next-preserved
+loop-next-preserved c =
+    let next = c.in-Some.ensures.some in
+    (round-on _ _ _ c.requires.0 c.requires.1 c.loop-next.invariant _ next.0 next.1).0
 
-pub shape_of-list-then-next-at : goal.shape_of-list-then-next-at
-shape_of-list-then-next-at c =
-    (round-end _ _ _ c.requires.0 c.requires.1 c.loop-at.invariant _
-    c.next_moves-next.ensures
-    c.if-next-at.true).tracking.places ∙ sym c.requires.1.places
-
-pub returns-then-next-at : goal.returns-then-next-at
-returns-then-next-at c =
-    round-end _ _ _ c.requires.0 c.requires.1 c.loop-at.invariant _
-    c.next_moves-next.ensures
-    c.if-next-at.true
-
-pub loop-at-smaller : goal.loop-at-smaller
-loop-at-smaller c =
-    (round-on _ _ _ c.requires.0 c.requires.1 c.loop-at.invariant _
-    c.next_moves-next.ensures
-    c.if-next-at.false).1
-
-pub loop-at-preserved : goal.loop-at-preserved
-loop-at-preserved c =
-    (round-on _ _ _ c.requires.0 c.requires.1 c.loop-at.invariant _
-    c.next_moves-next.ensures
-    c.if-next-at.false).0
+pub returns : goal.returns
+returns c =
+    round-end _ _ _ c.requires.0 c.requires.1 c.loop-next.invariant _ c.in_default.ensures.none refl

@@ -6,8 +6,8 @@ use Rattle.image_impl.proofs.Rounds.{Reached}
 use Rattle.image_impl.specs.internal.Working.{working}
 use Rattle.image_impl.proofs.image_loop.run_rule.Given as goal
 
-abbrev pub invariant-loop-at : goal.invariant-loop-at
-invariant-loop-at l = Reached (length l.initial.neighbours) (working l.initial.neighbours l.initial.codes l.initial.list l.initial.at) (working l.neighbours l.codes l.list l.at)
+abbrev pub invariant-loop-next : goal.invariant-loop-next
+invariant-loop-next l = Reached (length l.initial.neighbours) (working l.initial.neighbours l.initial.codes l.initial.list l.initial.at) (working l.neighbours l.codes l.list l.at)
 
-abbrev pub decreases-loop-at : goal.decreases-loop-at
-decreases-loop-at l = count (length l.initial.neighbours) (bit l.at.c)
+abbrev pub decreases-loop-next : goal.decreases-loop-next
+decreases-loop-next l = count (length l.initial.neighbours) (bit l.at.c)

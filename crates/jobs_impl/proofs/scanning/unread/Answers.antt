@@ -6,4 +6,4 @@ use Rattle.jobs_impl.proofs.scanning.unread.Goals as goal
 
 pub returns : goal.returns
 unfolding empty
-returns c = ap (λ s. as_reading s (replicate 4096 no_step)) c.start-scan.ensures
+returns c = ap (λ s. as_reading s (replicate 4096 no_step)) c.start.ensures

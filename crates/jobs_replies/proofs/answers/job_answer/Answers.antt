@@ -1,4 +1,4 @@
--- `job_answer` meets its contract: prints the answer to a job, whose steps stand at the start of the array.
+-- `job_answer` meets its contract: prints the answer to a job of these steps.
 use mathlib.Core.Path.{refl, sym}
 use Rattle.buffers.proofs.Parts.{part-long}
 use Rattle.jobs_replies.proofs.Starting.{fresh}

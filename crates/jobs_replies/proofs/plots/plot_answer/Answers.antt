@@ -1,6 +1,5 @@
 -- `plot_answer` meets its contract: prints the answer to the list of n generators at the start of the buffers.
 use mathlib.Core.Path.{refl, sym}
-use native.Mathlib.Omega.{arith}
 use Rattle.calls.proofs.PlotLines.{many-refused}
 use Rattle.buffers.proofs.Parts.{part-long}
 use Rattle.buffers.proofs.Writing.{same-print}
@@ -10,18 +9,6 @@ use Rattle.jobs_replies.proofs.plots.plot_answer.Goals as goal
 pub returns-then-n-gt10 : goal.returns-then-n-gt10
 returns-then-n-gt10 c =
     same-print (sym (many-refused _ c.if-n-gt10.true)) c.print_refusal.ensures
-
-pub slice_bounds-print_plot-end : goal.slice_bounds-print_plot-end
-slice_bounds-print_plot-end c =
-    sym (part-long _ _ (omega (arith, c.if-n-gt10.false)) c.well_formed.1.0.1.0.1)
-
-pub slice_bounds-print_plot-end-2 : goal.slice_bounds-print_plot-end-2
-slice_bounds-print_plot-end-2 c =
-    sym (part-long _ _ (omega (arith, c.if-n-gt10.false)) c.well_formed.1.1.0.1.0.1)
-
-pub slice_bounds-print_plot-end-3 : goal.slice_bounds-print_plot-end-3
-slice_bounds-print_plot-end-3 c =
-    sym (part-long _ _ (omega (arith, c.if-n-gt10.false)) c.well_formed.1.1.1.0.1.0.1)
 
 pub slice_bounds-print_plot-end-4 : goal.slice_bounds-print_plot-end-4
 slice_bounds-print_plot-end-4 c = sym (part-long _ _ c.if-n-gt10.false refl)

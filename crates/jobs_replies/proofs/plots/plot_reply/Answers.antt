@@ -4,12 +4,12 @@ use Rattle.jobs_replies.proofs.PlotAnswering.{too-many-refused}
 use Rattle.calls.specs.PlotAnswers.{plot_answer}
 use Rattle.jobs_replies.proofs.plots.plot_reply.Goals as goal
 
-pub returns-then-verdict : goal.returns-then-verdict
-returns-then-verdict c =
-    formed-responds plot_answer _ _ _ _ _ _ _ too-many-refused c.if-verdict.true
+pub returns-in-Some : goal.returns-in-Some
+returns-in-Some c =
+    formed-responds plot_answer _ _ _ _ _ _ _ too-many-refused c.in-Some.n c.in-Some.is
     c.plot_answer.ensures
 
-pub returns : goal.returns
-returns c =
-    malformed-responds plot_answer _ _ _ _ _ _ _ c.if-verdict.false
+pub returns-in-None : goal.returns-in-None
+returns-in-None c =
+    malformed-responds plot_answer _ _ _ _ _ _ _ c.in-None.is
     c.print_refusal.ensures

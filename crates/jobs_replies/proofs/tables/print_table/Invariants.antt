@@ -1,6 +1,6 @@
 -- What the loops of `print_table` keep.
 use mathlib.Core.Path.{◌≡◌}
-use Prim.Native.Nat.{◌-◌, ◌≤◌}
+use Prim.Native.Nat.{◌≤◌}
 use lib.ListN.{length}
 use Rattle.amplitude.specs.Ratios.{plot_at}
 use Rattle.operations.specs.internal.InPlace.{record_in}
@@ -14,6 +14,3 @@ invariant-loop-y l =
     (l.y ≤ l.count)
     × Printed (point_texts l.y (plot_at (length l.neighbours) (held_rows (record_in l.neighbours l.codes)))) l.initial.at l.initial.out l.out l.at
     × (length l.out ≡ length l.initial.out)
-
-abbrev pub decreases-loop-y : goal.decreases-loop-y
-decreases-loop-y l = l.count - l.y

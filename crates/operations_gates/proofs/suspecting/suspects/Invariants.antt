@@ -1,13 +1,9 @@
 -- What the loops of `suspects` keep.
-use mathlib.Core.Path.{◌≡◌}
-use Prim.Native.Nat.{◌%◌, ◌≤◌}
+use Prim.Native.Nat.{◌*◌, ◌≤◌}
 use lib.ListN.{get_or, length}
 use Rattle.record_reduction.proofs.Pivoting.{NamedFrom}
 use Rattle.operations_gates.specs.internal.Suspects.{suspect}
 use Rattle.operations_gates.proofs.suspecting.suspects.Given as goal
 
-abbrev pub invariant-loop-i : goal.invariant-loop-i
-invariant-loop-i l = (l.i % 8 ≡ 0) × (l.i ≤ length l.codes) × NamedFrom (length l.codes) (λ q. suspect (get_or l.codes q 0)) l.all l.i
-
-abbrev pub decreases-loop-i : goal.decreases-loop-i
-decreases-loop-i l = l.i
+abbrev pub invariant-loop-e : goal.invariant-loop-e
+invariant-loop-e l = (8 * l.e ≤ length l.codes) × NamedFrom (length l.codes) (λ q. suspect (get_or l.codes q 0)) l.all (8 * l.e)

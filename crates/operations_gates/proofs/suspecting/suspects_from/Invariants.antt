@@ -6,7 +6,4 @@ use Rattle.operations_gates.specs.internal.Suspects.{suspect}
 use Rattle.operations_gates.proofs.suspecting.suspects_from.Given as goal
 
 abbrev pub invariant-loop-i : goal.invariant-loop-i
-invariant-loop-i l = (l.from ≤ l.i) × (l.i ≤ length l.codes) × NamedFrom (length l.codes) (λ q. suspect (get_or l.codes q 0)) l.all l.i
-
-abbrev pub decreases-loop-i : goal.decreases-loop-i
-decreases-loop-i l = l.i
+invariant-loop-i l = (l.from ≤ l.i) × NamedFrom (length l.codes) (λ q. suspect (get_or l.codes q 0)) l.all l.i

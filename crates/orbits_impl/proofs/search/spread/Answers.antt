@@ -26,7 +26,7 @@ bounds-list-head c =
     omega (arith, tail-fits Q, Q.places)
 
 pub overflow_cast-next : goal.overflow_cast-next
-overflow_cast-next c = omega (arith, c.slice_known-in-loop-head-1.given c.loop-head.head)
+overflow_cast-next c = omega (arith, c.type_inv.list c.loop-head.head)
 
 pub visit_around-tail-requires : goal.visit_around-tail-requires
 visit_around-tail-requires c =

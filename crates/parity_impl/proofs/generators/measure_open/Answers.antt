@@ -30,4 +30,10 @@ slice_bounds-measure_in-end-3 c =
 
 pub measure_in-requires : goal.measure_in-requires
 measure_in-requires c =
-    let short = unrefused-short _ _ c.requires.unrefused in record { unrefused = c.requires.unrefused; z_bound = c.requires.z_bound; x_value = c.requires.x_value; signs_len = (part-long _ _ short refl, part-long _ _ short refl, part-long _ _ short refl) }
+    let short = unrefused-short _ _ c.requires.unrefused in
+    record {
+      unrefused = c.requires.unrefused;
+      z_bound = c.requires.z_bound;
+      x_value = c.requires.x_value;
+      signs_len = (part-long _ _ short refl, part-long _ _ short refl, part-long _ _ short refl);
+    }

@@ -1,7 +1,6 @@
 -- What the loops of `held_out` keep.
 use mathlib.Core.Bool.{◌&&◌}
 use mathlib.Core.List.{[]}
-use Prim.Native.Nat.{◌-◌, ◌≤◌}
 use Rattle.parties.specs.Masks.{reaches_out}
 use Rattle.store.specs.Places.{is_held, place_at}
 use Rattle.words.proofs.Searching.{NoneBelow}
@@ -10,8 +9,5 @@ use Rattle.parties_impl.proofs.checks.held_out.Given as goal
 
 abbrev pub invariant-loop-i : goal.invariant-loop-i
 invariant-loop-i l =
-    (l.i ≤ 4) × NoneBelow (λ j. is_held l.heads j
+    NoneBelow (λ j. is_held l.heads j
     && reaches_out (bit l.own) (place_at (record { heads = l.heads; neighbours = l.neighbours; codes = [] }) j)) l.i
-
-abbrev pub decreases-loop-i : goal.decreases-loop-i
-decreases-loop-i l = 4 - l.i

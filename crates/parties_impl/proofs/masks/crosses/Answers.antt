@@ -6,20 +6,16 @@ use Rattle.parties_impl.proofs.masks.crosses.Goals as goal
 pub loop-j-init : goal.loop-j-init
 loop-j-init c = some-to-none 64 _
 
-pub bounds-neighbours-j : goal.bounds-neighbours-j
-bounds-neighbours-j c =
-    omega (arith, c.loop-j-test.true, c.requires)
-
 pub loop-j-preserved : goal.loop-j-preserved
 loop-j-preserved c =
     let l = c.loop-j in
     let a = c.args in
-    some-to-one l.j 64 _ l.found _ c.loop-j-test.true
-    (crossing-here a.word a.neighbours.now l.j c.others-other.ensures c.pick_word.ensures
+    some-to-one l.j 64 _ l.found _ (omega arith)
+    (crossing-here a.word a.neighbours.now l.j c.others-other.ensures c.pick.ensures
     c.meet-found.ensures)
     l.invariant
 
 pub returns : goal.returns
 returns c =
     let a = c.args in
-    crossing-all a.word a.neighbours.now c.loop-j.invariant c.loop-j-test.false
+    crossing-all a.word a.neighbours.now c.loop-j.invariant (omega arith)

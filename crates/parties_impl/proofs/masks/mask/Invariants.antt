@@ -1,6 +1,5 @@
 -- What the loops of `mask` keep.
 use mathlib.Core.Bool.{cond}
-use Prim.Native.Nat.{◌-◌}
 use lib.ListN.{get_or}
 use Rattle.buffers.proofs.Filling.{Filled}
 use Rattle.words.specs.Bits.{bit}
@@ -10,6 +9,3 @@ abbrev pub invariant-loop-q : goal.invariant-loop-q
 invariant-loop-q l =
     Filled 64 (λ j. cond (bit l.own j) (get_or l.neighbours j 0) 0) l.words l.q
     × Filled 64 (λ j. cond (bit l.own j) (get_or l.codes j 0) 8) l.bytes l.q
-
-abbrev pub decreases-loop-q : goal.decreases-loop-q
-decreases-loop-q l = 64 - l.q

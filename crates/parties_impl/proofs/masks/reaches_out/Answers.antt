@@ -3,21 +3,17 @@ use native.Mathlib.Omega.{arith}
 use Rattle.parties_impl.proofs.Edges.{out-all, out-here, some-to-none, some-to-one}
 use Rattle.parties_impl.proofs.masks.reaches_out.Goals as goal
 
-pub loop-j-init : goal.loop-j-init
-loop-j-init c = some-to-none 64 _
+pub loop-row-init : goal.loop-row-init
+loop-row-init c = some-to-none 64 _
 
-pub bounds-neighbours-j : goal.bounds-neighbours-j
-bounds-neighbours-j c =
-    omega (arith, c.loop-j-test.true, c.requires)
-
-pub loop-j-preserved : goal.loop-j-preserved
-loop-j-preserved c =
-    let l = c.loop-j in
+pub loop-row-preserved : goal.loop-row-preserved
+loop-row-preserved c =
+    let l = c.loop-row in
     let a = c.args in
-    some-to-one l.j 64 _ l.found _ c.loop-j-test.true
-    (out-here a.own a.neighbours.now l.j c.others-outside.ensures c.meet-found.ensures) l.invariant
+    some-to-one l.row-index 64 _ l.found _ (omega arith)
+    (out-here a.own a.neighbours.now l.row-index c.others-outside.ensures c.meet-found.ensures) l.invariant
 
 pub returns : goal.returns
 returns c =
     let a = c.args in
-    out-all a.own a.neighbours.now c.loop-j.invariant c.loop-j-test.false
+    out-all a.own a.neighbours.now c.loop-row.invariant (omega arith)

@@ -6,8 +6,8 @@ use Rattle.store.specs.Places.{place_of}
 use Rattle.store_impl.proofs.Parts.{from_place}
 use Rattle.parties_impl.proofs.places.own_find.Goals as goal
 
-pub returns : goal.returns
-returns c =
+pub returns-clause-place : goal.returns-clause-place
+returns-clause-place c =
     let a = c.args in
-    c.find.ensures ∙ ap (λ h. place_of 4 h a.name)
+    c.find.ensures.place ∙ ap (λ h. place_of 4 h a.name)
     (from_place (12 * a.party) 12 a.heads.now ∙ sym (own-heads-of a.party a.heads.now c.requires.1))

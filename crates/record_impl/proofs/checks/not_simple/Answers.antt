@@ -4,11 +4,8 @@ use Rattle.record_impl.proofs.checks.not_simple.Goals as goal
 
 pub returns : goal.returns
 returns c =
-    let at-unequal = c.before.before in
-    let at-transpose = at-unequal.before.before in
-    let at-square = at-transpose.before.before in
-    let a = at-square.args in
-    square-verdict a.n a.neighbours.now at-transpose.transpose.new.rows _ _ _
-    (turned-back a.n a.neighbours.now at-square.square_of-own.new.rows at-transpose.transpose.new.rows
-    at-square.square_of-own.ensures.copied at-transpose.transpose.ensures.turned)
-    at-square.square_of-own.ensures.by_index at-unequal.unequal.ensures c.mask.ensures
+    let a = c.args in
+    square-verdict a.n a.neighbours.now c.transpose.new.rows _ _ _
+    (turned-back a.n a.neighbours.now c.square_of-own.new.rows c.transpose.new.rows
+    c.square_of-own.ensures.copied c.transpose.ensures.turned)
+    c.square_of-own.ensures.by_index c.unequal.ensures c.mask.ensures

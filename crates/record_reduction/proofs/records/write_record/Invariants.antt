@@ -1,5 +1,5 @@
 -- What the loops of `write_record` keep.
-use Prim.Native.Nat.{◌-◌, ◌≤◌}
+use Prim.Native.Nat.{◌≤◌}
 use Rattle.buffers.proofs.Filling.{Filled}
 use Rattle.clifford.specs.Clifford.{code_of}
 use Rattle.record.specs.Reduced.{graph_of, record_of}
@@ -12,6 +12,3 @@ invariant-loop-q l =
     (l.q ≤ l.n)
     × Filled l.n (λ j. word_of l.n (graph_of l.n (tableau l.signs l.rows) j)) l.neighbours l.q
     × Filled l.n (λ j. code_of ((record_of l.n (bit l.hadamards) (tableau l.signs l.rows)).codes j)) l.codes l.q
-
-abbrev pub decreases-loop-q : goal.decreases-loop-q
-decreases-loop-q l = l.n - l.q

@@ -3,7 +3,6 @@ use mathlib.Core.Path.{refl}
 use Rattle.buffers.proofs.Fitting.{first-is}
 use Rattle.buffers.specs.Answers.{here, later, none}
 use Rattle.stabilizer.proofs.EarlyLines.{either-says, says}
-use Rattle.stabilizer.proofs.SharedTests.{counted}
 use Rattle.stabilizer_impl.proofs.checks.form_refusal.Goals as goal
 
 pub returns-then-bad_count : goal.returns-then-bad_count
@@ -11,42 +10,25 @@ returns-then-bad_count c = first-is (here (says c.bad_count.ensures c.if-bad_cou
 
 pub returns-then-list_lengths-others : goal.returns-then-list_lengths-others
 returns-then-list_lengths-others c =
-    let past2 = c.before.before.before in
-    first-is (later (says past2.bad_count.ensures past2.if-bad_count.false)
+    first-is (later (says c.bad_count.ensures c.if-bad_count.false)
     (here (either-says c.list_lengths.ensures refl c.if-list_lengths-others.true)))
-
-pub strays-requires : goal.strays-requires
-strays-requires c = let past2 = c.before.before.before in counted _ (says past2.bad_count.ensures past2.if-bad_count.false)
-
-pub strays-requires-2 : goal.strays-requires-2
-strays-requires-2 c =
-    let past2 = c.before.before.before.before in
-    counted _ (says past2.bad_count.ensures past2.if-bad_count.false)
 
 pub returns-then-strays : goal.returns-then-strays
 returns-then-strays c =
-    let past4 = c.before.before.before.before in
-    let past2 = past4.before.before in
-    first-is (later (says past2.bad_count.ensures past2.if-bad_count.false)
-    (later (either-says past4.list_lengths.ensures refl past4.if-list_lengths-others.false)
+    first-is (later (says c.bad_count.ensures c.if-bad_count.false)
+    (later (either-says c.list_lengths.ensures refl c.if-list_lengths-others.false)
     (here (either-says c.strays.ensures c.strays-2.ensures c.if-strays.true))))
 
 pub returns-then-reaches : goal.returns-then-reaches
 returns-then-reaches c =
-    let past5 = c.before.before.before in
-    let past4 = past5.before.before.before in
-    let past2 = past4.before.before in
-    first-is (later (says past2.bad_count.ensures past2.if-bad_count.false)
-    (later (either-says past4.list_lengths.ensures refl past4.if-list_lengths-others.false)
-    (later (either-says past5.strays.ensures past5.strays-2.ensures past5.if-strays.false)
+    first-is (later (says c.bad_count.ensures c.if-bad_count.false)
+    (later (either-says c.list_lengths.ensures refl c.if-list_lengths-others.false)
+    (later (either-says c.strays.ensures c.strays-2.ensures c.if-strays.false)
     (here (says c.reaches.ensures c.if-reaches.true)))))
 
 pub returns : goal.returns
 returns c =
-    let past5 = c.before.before.before in
-    let past4 = past5.before.before.before in
-    let past2 = past4.before.before in
-    first-is (later (says past2.bad_count.ensures past2.if-bad_count.false)
-    (later (either-says past4.list_lengths.ensures refl past4.if-list_lengths-others.false)
-    (later (either-says past5.strays.ensures past5.strays-2.ensures past5.if-strays.false)
+    first-is (later (says c.bad_count.ensures c.if-bad_count.false)
+    (later (either-says c.list_lengths.ensures refl c.if-list_lengths-others.false)
+    (later (either-says c.strays.ensures c.strays-2.ensures c.if-strays.false)
     (later (says c.reaches.ensures c.if-reaches.false) none))))

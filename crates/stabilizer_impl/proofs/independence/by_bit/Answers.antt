@@ -1,9 +1,8 @@
 -- `by_bit` meets its contract: the word `by` where w has bit i, else 0.
 use mathlib.Core.Bool.{cond}
-use mathlib.Core.Path.{ap, subst, sym, ◌∙◌, ◌≡◌}
-use Prim.Native.Nat.{◌%◌, ◌*◌, ◌/◌, ◌<◌, ◌^◌, ℕ, ◌≤◌}
+use mathlib.Core.Path.{ap, ◌∙◌, ◌≡◌}
+use Prim.Native.Nat.{◌%◌, ◌*◌, ◌/◌, ◌<◌, ◌^◌, ℕ}
 use native.Mathlib.Nat.{mod-eq_of_lt}
-use native.Mathlib.Omega.{arith}
 use lib.Bits.{and_comm, and_mask, and_zero_l, bit_and}
 use lib.Dec.{eqb}
 use Rattle.words.proofs.BitLaws.{low_digit}
@@ -16,13 +15,6 @@ mask-of : (v by : ℕ) → by < 2 ^ 64
 mask-of v by h = ap (λ u. bit_and (u * 18446744073709551615) by) (and_mask v 1)
     ∙ low_digit (λ u. bit_and (u * 18446744073709551615) by ≡ cond (eqb u 1) by 0) (and_zero_l by)
     (and_comm 18446744073709551615 by ∙ and_mask by 64 ∙ mod-eq_of_lt h) v
-
-fits : (v : ℕ) → bit_and v 1 * 18446744073709551615 ≤ 18446744073709551615
-fits v = subst (λ u. u * 18446744073709551615 ≤ 18446744073709551615) (sym (and_mask v 1))
-    (low_digit (λ u. u * 18446744073709551615 ≤ 18446744073709551615) (omega arith) (omega arith) v)
-
-pub overflow_mul-result : goal.overflow_mul-result
-overflow_mul-result c = omega (arith, fits (c.args.w / 2 ^ c.args.i))
 
 pub returns : goal.returns
 unfolding bit

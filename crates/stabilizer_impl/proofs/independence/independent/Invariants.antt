@@ -1,11 +1,7 @@
 -- What the loops of `independent` keep.
-use Prim.Native.Nat.{◌-◌}
 use Rattle.stabilizer.proofs.Pairs.{letters_of}
 use Rattle.stabilizer_impl.proofs.Elimination.{Pivoted}
 use Rattle.stabilizer_impl.proofs.independence.independent.Given as goal
 
 abbrev pub invariant-loop-k : goal.invariant-loop-k
 invariant-loop-k l = Pivoted l.n (letters_of l.z l.x) l.own_z l.own_x l.k
-
-abbrev pub decreases-loop-k : goal.decreases-loop-k
-decreases-loop-k l = l.n - l.k

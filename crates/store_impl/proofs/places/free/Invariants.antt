@@ -1,12 +1,8 @@
 -- What the loops of `free` keep.
 use mathlib.Core.Bool.{not}
-use Prim.Native.Nat.{◌-◌, ◌≤◌}
 use Rattle.store.specs.Places.{is_held}
 use Rattle.words.proofs.Searching.{NoneBelow}
 use Rattle.store_impl.proofs.places.free.Given as goal
 
 abbrev pub invariant-loop-i : goal.invariant-loop-i
-invariant-loop-i l = (l.i ≤ l.k) × NoneBelow (λ j. not (is_held l.heads j)) l.i
-
-abbrev pub decreases-loop-i : goal.decreases-loop-i
-decreases-loop-i l = l.k - l.i
+invariant-loop-i l = NoneBelow (λ j. not (is_held l.heads j)) l.i

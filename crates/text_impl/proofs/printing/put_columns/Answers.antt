@@ -8,20 +8,20 @@ use Rattle.text.proofs.HexLaws.{length-field, length-hex}
 use Rattle.buffers.proofs.Writing.{and_then}
 use Rattle.text_impl.proofs.printing.put_columns.Goals as goal
 
-pub put_word-after_w-requires : goal.put_word-after_w-requires
-put_word-after_w-requires c =
-    omega (arith, length-field c.args.code, c.put_field-after_code.ensures.end, c.put_field-after_code.auto, c.requires)
+pub put_word-after_word-requires : goal.put_word-after_word-requires
+put_word-after_word-requires c =
+    omega (arith, length-field c.args.line.code, c.put_field-after_code.ensures.end, c.put_field-after_code.auto, c.requires)
 
 pub put_used-requires : goal.put_used-requires
 put_used-requires c =
     omega (
       arith,
-      length-field c.args.code,
-      length-hex 16 c.args.w,
+      length-field c.args.line.code,
+      length-hex 16 c.args.line.word,
       c.put_field-after_code.ensures.end,
-      c.put_word-after_w.ensures.end,
+      c.put_word-after_word.ensures.end,
       c.put_field-after_code.auto,
-      c.put_word-after_w.auto,
+      c.put_word-after_word.auto,
       c.requires,
     )
 
@@ -29,8 +29,8 @@ pub returns : goal.returns
 unfolding columns
 returns c =
     let a = c.args in
-    let long-code = length-field a.code in
-    let long = length-append (decimal a.code ++ space) (hex_text 16 a.w) in
-    and_then (omega (arith, long-code, long, length-hex 16 a.w, c.requires))
-    (and_then (omega (arith, long-code, c.requires)) c.put_field-after_code.ensures c.put_word-after_w.ensures)
+    let long-code = length-field a.line.code in
+    let long = length-append (decimal a.line.code ++ space) (hex_text 16 a.line.word) in
+    and_then (omega (arith, long-code, long, length-hex 16 a.line.word, c.requires))
+    (and_then (omega (arith, long-code, c.requires)) c.put_field-after_code.ensures c.put_word-after_word.ensures)
     c.put_used.ensures

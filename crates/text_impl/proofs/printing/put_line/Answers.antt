@@ -12,6 +12,6 @@ put_columns-requires c =
 pub returns : goal.returns
 returns c =
     let a = c.args in
-    same-print (line-columns a.q (record { code = a.code; word = a.w; used = a.used }))
+    same-print (line-columns a.q a.line)
     (and_then (omega (arith, length-field a.q, c.requires)) c.put_field-after_q.ensures
     c.put_columns.ensures)

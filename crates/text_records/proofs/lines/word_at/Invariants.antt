@@ -1,12 +1,9 @@
 -- What the loops of `word_at` keep.
 use mathlib.Core.Path.{◌≡◌}
-use Prim.Native.Nat.{◌+◌, ◌-◌, ◌≤◌}
+use Prim.Native.Nat.{◌+◌}
 use lib.ListN.{get_or}
 use Rattle.text.specs.RecordTexts.{hex_of}
 use Rattle.text_records.proofs.lines.word_at.Given as goal
 
 abbrev pub invariant-loop-k : goal.invariant-loop-k
-invariant-loop-k l = (l.k ≤ 16) × (l.w ≡ hex_of l.k (λ c. get_or l.text (l.from + c) 0))
-
-abbrev pub decreases-loop-k : goal.decreases-loop-k
-decreases-loop-k l = 16 - l.k
+invariant-loop-k l = l.w ≡ hex_of l.k (λ c. get_or l.text (l.from + c) 0)

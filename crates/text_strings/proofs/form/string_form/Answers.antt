@@ -14,4 +14,5 @@ returns-then-has_size c =
 
 pub returns-else-has_size : goal.returns-else-has_size
 returns-else-has_size c =
-    size-decides c.args.text.now c.args.n c.requires (sym c.has_size.ensures ∙ c.if-has_size.false)
+    c.if-has_size.false
+    ∙ size-decides c.args.text.now c.args.n c.requires (sym c.has_size.ensures ∙ c.if-has_size.false)

@@ -1,5 +1,4 @@
 -- What the loops of `put_letters` keep.
-use Prim.Native.Nat.{◌-◌}
 use Rattle.pauli.specs.Pauli.{letter}
 use Rattle.text.specs.Strings.{letter_byte}
 use Rattle.words.specs.Bits.{bit}
@@ -8,6 +7,3 @@ use Rattle.text_strings.proofs.printing.put_letters.Given as goal
 
 abbrev pub invariant-loop-q : goal.invariant-loop-q
 invariant-loop-q l = TablePut l.n (λ i. letter_byte (letter (bit l.z i) (bit l.x i))) l.at l.initial.out l.out l.q
-
-abbrev pub decreases-loop-q : goal.decreases-loop-q
-decreases-loop-q l = l.n - l.q

@@ -4,6 +4,3 @@ use Rattle.text_strings.proofs.scanning.string_row.Given as goal
 
 abbrev pub invariant-loop-q : goal.invariant-loop-q
 invariant-loop-q l = Halves l.text l.from l.n l.low l.high l.q
-
-abbrev pub decreases-loop-q : goal.decreases-loop-q
-decreases-loop-q l = l.q

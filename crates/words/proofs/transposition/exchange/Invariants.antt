@@ -11,9 +11,6 @@ invariant-loop-k l =
     ((l.block ≤ l.k) × (l.k ≤ l.block + l.s)) × ((length l.rows ≡ 64) × ((first : List ℕ) → Upto l.m l.s l.block first l.initial.rows → Upto l.m l.s l.k
     first l.rows))
 
-abbrev pub decreases-loop-k : goal.decreases-loop-k
-decreases-loop-k l = l.block + l.s - l.k
-
 abbrev pub invariant-loop-block : goal.invariant-loop-block
 invariant-loop-block l = (l.block ≤ l.m) × ((l.block % (2 * l.s) ≡ 0) × Upto l.m l.s l.block l.initial.rows l.rows)
 

@@ -1,35 +1,14 @@
 -- `inverse` meets its contract: the code that undoes this one.
 use native.Mathlib.Omega.{arith}
-use Rattle.clifford_impl.proofs.CodeDigits.{back-lt, byte-lt}
+use Rattle.clifford_impl.proofs.CodeDigits.{back-lt}
 use Rattle.clifford_impl.proofs.CodeSigns.{inverse-by-calls}
 use Rattle.clifford_impl.proofs.codes.Code.inverse.Goals as goal
-
-pub overflow_mul-back : goal.overflow_mul-back
-overflow_mul-back c = omega (arith, back-lt c.args.self.index c.requires)
 
 pub image_letter-requires : goal.image_letter-requires
 image_letter-requires c = omega (arith, back-lt c.args.self.index c.requires)
 
 pub image_letter-requires-2 : goal.image_letter-requires-2
 image_letter-requires-2 c = omega (arith, back-lt c.args.self.index c.requires)
-
-pub overflow_mul-result : goal.overflow_mul-result
-overflow_mul-result c = omega (arith, byte-lt c.image_minus-x.result)
-
-pub overflow_add-result : goal.overflow_add-result
-overflow_add-result c =
-    let start = c.before.before.before.before in
-    omega (arith, back-lt start.args.self.index start.requires, byte-lt c.image_minus-x.result)
-
-pub overflow_add-result-2 : goal.overflow_add-result-2
-overflow_add-result-2 c =
-    let start = c.before.before.before.before in
-    omega (
-      arith,
-      back-lt start.args.self.index start.requires,
-      byte-lt c.image_minus-x.result,
-      byte-lt c.image_minus-z.result,
-    )
 
 pub returns : goal.returns
 returns c =
