@@ -5,8 +5,21 @@ ghost use Rattle.buffers.specs.internal.Earlier.{earlier_of};
 
 use crate::refusals::Refusal;
 
+// The number of the line that comes first in checking order; 0 stands for no line.
+pub fn earlier(a: u8, b: u8) -> u8
+    ensures { result ≡ earlier_of a b }
+{
+    if a == 0 {
+        return b;
+    }
+    if b == 0 {
+        return a;
+    }
+    if a < b { a } else { b }
+}
+
 // The refusal that comes first in checking order, where one of the two refuses.
-pub fn earlier(a: Result<(), Refusal>, b: Result<(), Refusal>) -> Result<(), Refusal>
+pub fn earlier_refusal(a: Result<(), Refusal>, b: Result<(), Refusal>) -> Result<(), Refusal>
     ensures { number_of result ≡ earlier_of (number_of a) (number_of b) }
 {
     let Err(one) = a else {
@@ -15,5 +28,9 @@ pub fn earlier(a: Result<(), Refusal>, b: Result<(), Refusal>) -> Result<(), Ref
     let Err(other) = b else {
         return a;
     };
-    if one.number() < other.number() { a } else { b }
+    if earlier(one.number(), other.number()) == one.number() {
+        a
+    } else {
+        b
+    }
 }

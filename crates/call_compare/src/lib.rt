@@ -11,7 +11,7 @@ ghost use Rattle.calls.specs.Comparisons.{compare_call};
 ghost use Rattle.calls.specs.Equivalences.{equivalent_call};
 ghost use Rattle.calls.specs.internal.Limited.{comparing_call};
 
-use buffers::earliest::earlier;
+use buffers::earliest::earlier_refusal;
 use buffers::refusals::Refusal;
 use buffers::{bad_count, other_than};
 use call_lists::reduce;
@@ -53,7 +53,7 @@ fn compare_lists(
 {
     let first = reduce(n, signs1, z1, x1, neighbours1, codes1);
     let second = reduce(n, signs2, z2, x2, neighbours2, codes2);
-    earlier(first, second)?;
+    earlier_refusal(first, second)?;
     compare_reduced(
         limited,
         n as usize,

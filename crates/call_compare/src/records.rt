@@ -11,7 +11,7 @@ ghost use Rattle.calls.specs.internal.Limited.{comparing_records_call};
 
 use crate::pair_count;
 use buffers::copies::copy_record;
-use buffers::earliest::earlier;
+use buffers::earliest::earlier_refusal;
 use buffers::other_than;
 use buffers::refusals::Refusal;
 use comparison_parts::answer::compare_reduced;
@@ -89,7 +89,7 @@ fn compare_records_by(
     let others = other_than(choice.len(), n1) | other_than(list.len(), 96);
     let first = record_refusal(n1, neighbours1, codes1, others, false);
     let second = record_refusal(n2, neighbours2, codes2, false, false);
-    earlier(first, second)?;
+    earlier_refusal(first, second)?;
     let n = n1 as usize;
     let mut words1 = [0u64; 64];
     let mut bytes1 = [0u8; 64];

@@ -9,7 +9,7 @@ ghost use Rattle.store.specs.StoreLines.{holds_line, of_record, record_tests};
 ghost use Rattle.calls.specs.PartyStores.{party_forget_call, party_return_call, party_save_call};
 ghost use Rattle.operations.specs.Used.{used_record};
 
-use buffers::earliest::earlier;
+use buffers::earliest::earlier_refusal;
 use buffers::refusals::Refusal;
 use operations_checks::used_refusal;
 use parties_impl::checks::own_refusal;
@@ -49,7 +49,7 @@ fn both_refusal(
 {
     let own = used_refusal(n, neighbours, codes, used, 0, false, false);
     let held = own_refusal(word, party, heads, held_neighbours, held_codes);
-    earlier(own, held)
+    earlier_refusal(own, held)
 }
 
 // The first of the lines that save, return and forget share that holds; `Ok` where none does.
@@ -85,7 +85,7 @@ fn shared_refusal(
         held_neighbours,
         held_codes,
     );
-    earlier(both, party_number(party))?;
+    earlier_refusal(both, party_number(party))?;
     if crosses(word, neighbours) {
         Err(Refusal::OtherGroup)
     } else {

@@ -5,7 +5,6 @@ use mathlib.Core.Path.{ap, refl, sym, ◌∙◌, ◌≡◌}
 use Prim.Native.Nat.{ℕ, ◌≤◌}
 use native.Mathlib.Omega.{arith}
 use lib.ListN.{drop, get_or, length, length-append, length-drop, take}
-use Rattle.std.specs.Prelude.{Ok}
 use Rattle.std.proofs.lemmas.List.{length-take}
 use Rattle.buffers.proofs.Lines.{more-accepted, not-held}
 use Rattle.buffers.proofs.Tabulate.{tabulate-cong}
@@ -14,6 +13,8 @@ use Rattle.buffers.specs.Refusals.{first_fitting, other_than}
 use Rattle.buffers.proofs.Calling.{done, refused}
 use Rattle.buffers.proofs.Fitting.{stays}
 use Rattle.buffers.specs.Calls.{Call}
+use Rattle.buffers.specs.internal.Numbers.{number_of}
+use Rattle.image_impl.specs.declared.answer.Told.{Told}
 use Rattle.image_impl.specs.internal.Answer.{IsImage}
 use Rattle.image.specs.Image.{image_lines, loop_lines}
 use Rattle.record.proofs.AcceptedRecords.{accepted-record}
@@ -80,25 +81,23 @@ module _ (l : LentRecord) (g s v : List ℕ) (count : ℕ) where
       image-looped r f h = refused _ (loop-number f) h (refl, (refl, (refl, (refl, tt))))
 
       -- the answer of the image rule: neither does
-      module _ (listed : ℕ) (graph signs list : List ℕ) (A : IsImage l.n (held_record l) (Ok listed) graph signs list)
+      module _ (told : Told) (graph signs list : List ℕ) (A : IsImage l.n (held_record l) told graph signs list)
         where
-          counted-room : listed ≤ 96
-          counted-room = omega (arith, A.room, A.count)
-
           -- the list has room for its count
-          pub front-room : length (take listed list) ≤ length v
-          front-room = omega (arith, counted-room, list-fits, length-take listed list)
+          pub front-room : length (take told.count list) ≤ length v
+          front-room = omega (arith, A.room, list-fits, length-take told.count list)
 
           -- the answer is written
-          pub image-accepted : (g' s' v' : List ℕ) → g' ≡ tabulate (length g) (λ j. get_or graph j 0) →
-              s' ≡ tabulate (length s) (λ j. get_or signs j 0) → v' ≡ written (take listed list) v →
-              Call (image_call l g s v count g' s' v' listed) 0
-          image-accepted g' s' v' eg es ev =
-              done _ (loop-number A.number) refl (
+          pub image-accepted : number_of told.answer ≡ 0 → (g' s' v' : List ℕ) →
+              g' ≡ tabulate (length g) (λ j. get_or graph j 0) →
+              s' ≡ tabulate (length s) (λ j. get_or signs j 0) → v' ≡ written (take told.count list) v →
+              Call (image_call l g s v count g' s' v' told.count) 0
+          image-accepted e g' s' v' eg es ev =
+              done _ (loop-number (sym e ∙ A.number)) refl (
                 eg ∙ ap (λ m. tabulate m (λ j. get_or graph j 0)) graph-fits ∙ tabulate-cong l.n _ _ A.graph,
                 (
                   es ∙ ap (λ m. tabulate m (λ j. get_or signs j 0)) signs-fit
-                      ∙ tabulate-cong l.n _ _ (A.signs refl),
-                  (ev ∙ ap (λ vs. written vs v) (ap (λ c. take c list) A.count ∙ A.list), (A.count, tt)),
+                      ∙ tabulate-cong l.n _ _ (A.signs e),
+                  (ev ∙ ap (λ vs. written vs v) A.list, (A.count, tt)),
                 ),
               )

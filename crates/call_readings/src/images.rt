@@ -31,16 +31,17 @@ pub fn image(
     let mut graph = [0u64; 64];
     let mut minus = [0u8; 64];
     let mut vertices = [0u8; 96];
-    let listed = image_in(
+    let told = image_in(
         neighbours,
         codes,
         &mut graph[..k],
         &mut minus[..k],
         &mut vertices,
-    )?;
+    );
+    told.answer?;
     copy_first(&graph, image);
     copy_first(&minus, signs);
-    copy_front(&vertices[..listed], list);
-    *count = listed as u64;
+    copy_front(&vertices[..told.count], list);
+    *count = told.count as u64;
     Ok(())
 }

@@ -9,7 +9,7 @@ ghost use Rattle.store.specs.StoreLines.{holds_line, of_record, record_tests, st
 ghost use Rattle.calls.specs.Stores.{forget_call, return_call, save_call};
 ghost use Rattle.operations.specs.Used.{used_record};
 
-use buffers::earliest::earlier;
+use buffers::earliest::earlier_refusal;
 use buffers::other_than;
 use buffers::refusals::Refusal;
 use operations_checks::used_refusal;
@@ -36,7 +36,7 @@ fn save_refusal(
 {
     let own = used_refusal(n, neighbours, codes, used, 0, false, false);
     let others = store_refusal(8, heads, held_neighbours, held_codes, false);
-    earlier(own, others)
+    earlier_refusal(own, others)
 }
 
 // The record saved under the name: at its place, else at the smallest free one.

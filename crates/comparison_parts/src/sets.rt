@@ -15,9 +15,9 @@ pub fn spread(neighbours: &[u64], marked: u64) -> u64
         (graph_in neighbours.now) (bit marked) j }
 {
     let mut reached = marked;
-    for (i, &word) in neighbours.iter().enumerate() {
+    for i in 0..neighbours.len() {
         if has(marked, i) {
-            reached = reached | word;
+            reached |= neighbours[i];
         }
     }
     reached

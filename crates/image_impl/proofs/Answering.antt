@@ -10,12 +10,8 @@ use lib.Bits.{bit_and}
 use lib.Dec.{eqb}
 use lib.ListN.{get_or-append, get_or, length, take}
 use borrow.Author.Tests.{eq-eqb}
-use Rattle.std.specs.Prelude.{Err, IfOk, Ok, Result}
-use Rattle.std.specs.Result.{IsErrAnd}
-use Rattle.std.proofs.lemmas.Result.{IfOk-weaker}
 use Rattle.buffers.proofs.Lines.{not-held}
 use Rattle.buffers.specs.internal.Numbers.{number_of}
-use Rattle.buffers.specs.declared.refusals.Refusal.{Refusal}
 use Rattle.buffers.specs.Refusals.{first_fitting, line}
 use Rattle.clifford.specs.Clifford.{bit_c, image}
 use Rattle.clifford.specs.Vectors.{codes_of}
@@ -45,6 +41,7 @@ use Rattle.clifford_impl.specs.declared.rows.Action.{Action}
 use Rattle.clifford_impl.specs.internal.Actions.{ActsAs}
 use Rattle.operations.specs.internal.InPlace.{Unrefused, record_in}
 use Rattle.image_impl.proofs.ActionWords.{sx-here, sz-above, sz-here, y-above, y-here}
+use Rattle.image_impl.specs.declared.answer.Told.{Told}
 use Rattle.image_impl.specs.declared.complementing.Tracked.{Tracked}
 
 -- a set of vertices as a word: some vertex is in it where the word is not 0
@@ -150,12 +147,6 @@ copied-ruled {words} {codes} {words'} {codes'} {w} e R =
     subst (λ cs. Ruled (length words) (held_record (record_in words cs)) w) e.1
     (subst (λ ws. Ruled (length ws) (held_record (record_in ws codes')) w) e.0 R)
 
--- a refusal has no count
-pub no-count : {A : Type 0} (answer : Result A Refusal) (refusal : Refusal) → IsErrAnd answer (λ v. v ≡ refusal) →
-    (P : A → Type 0) → IfOk answer P
-no-count (Ok k) refusal p P = absurd p
-no-count (Err v) refusal p P = tt
-
 module _ (n : ℕ) (r : GraphRecord) (G : Simple n r.graph) (end : Working) (R : Ruled n r end) where
   list-room : length (image_list n r) ≤ 96
   list-room = omega (arith, image-length n r G, tracked-small n end R.tracking)
@@ -164,20 +155,20 @@ module _ (n : ℕ) (r : GraphRecord) (G : Simple n r.graph) (end : Working) (R :
   listed-all = record { list = R.list; count = R.count; room = omega (arith, list-room, R.count) }
 
   pub answered : (k : Action) → ActsAs (codes_of end.codes) k → k.b < 2 ^ 64 → k.sz < 2 ^ 64 →
-      (answer : Result ℕ Refusal) → number_of answer ≡ cond (eqb end.c 0) (cond (eqb (bit_and k.b k.d) 0) 0 12) 11 →
-      IfOk answer (λ k. k ≡ end.count) → (signs : List ℕ) →
+      (a : Told) → number_of a.answer ≡ cond (eqb end.c 0) (cond (eqb (bit_and k.b k.d) 0) 0 12) 11 →
+      a.count ≡ end.count → (signs : List ℕ) →
       ((j : ℕ) → j < length end.neighbours → get_or signs j 0 ≡ digit (bit k.sx j
-      ⊕ dot (get_or end.neighbours j 0) k.sz)) → IsImage n r answer end.neighbours signs end.list
-  answered k W b-below sz-below answer number count signs at =
+      ⊕ dot (get_or end.neighbours j 0) k.sz)) → IsImage n r a end.neighbours signs end.list
+  answered k W b-below sz-below a number counted signs at =
       record {
         number = number ∙ number_word n r G end R.held T k W b-below sz-below;
         graph = λ j m. graph-word n r G end R.held T k W b-below sz-below j;
         signs = λ e j m. at j (subst (λ i. j < i) (sym T.long) m)
             ∙ ap digit (sign_word n r G end R.held T k W b-below sz-below
             (sym (number_word n r G end R.held T k W b-below sz-below) ∙ sym number ∙ e) j m);
-        list = ap (λ c. take c end.list) (sym R.count) ∙ R.list;
-        count = IfOk-weaker answer _ _ (λ c e. e ∙ R.count) count;
-        room = list-room;
+        list = ap (λ c. take c end.list) counted ∙ R.list;
+        count = counted ∙ R.count;
+        room = omega (arith, list-room, counted, R.count);
       }
     where
       T : Tracking n end
@@ -185,11 +176,11 @@ module _ (n : ℕ) (r : GraphRecord) (G : Simple n r.graph) (end : Working) (R :
 
 -- the answer with words and signs at the start of longer arrays
 pub answered-longer : (n : ℕ) (words codes : List ℕ) → AcceptedRecord (lent_record n words codes)
-    → (answer : Result ℕ Refusal) (graph signs list : List ℕ) →
-    IsImage (length words) (held_record (record_in words codes)) answer graph signs list → (more others : List ℕ)
+    → (a : Told) (graph signs list : List ℕ) →
+    IsImage (length words) (held_record (record_in words codes)) a graph signs list → (more others : List ℕ)
     → length graph ≡ n → length signs ≡ n →
-    IsImage n (held_record (record_in words codes)) answer (graph ++ more) (signs ++ others) list
-answered-longer n words codes A answer graph signs list I more others lg ls =
+    IsImage n (held_record (record_in words codes)) a (graph ++ more) (signs ++ others) list
+answered-longer n words codes A a graph signs list I more others lg ls =
     record {
       number = J.number;
       graph = λ j m. get_or-append graph more 0 j (subst (λ k. j < k) (sym lg) m) ∙ J.graph j m;
@@ -199,5 +190,5 @@ answered-longer n words codes A answer graph signs list I more others lg ls =
       room = J.room;
     }
   where
-    J : IsImage n (held_record (record_in words codes)) answer graph signs list
-    J = subst (λ m. IsImage m (held_record (record_in words codes)) answer graph signs list) A.neighbours-length I
+    J : IsImage n (held_record (record_in words codes)) a graph signs list
+    J = subst (λ m. IsImage m (held_record (record_in words codes)) a graph signs list) A.neighbours-length I

@@ -17,6 +17,13 @@ use clifford_impl::codes::Code;
 use clifford_impl::rows::action_of;
 use words::{dot_product, flip_where, has};
 
+// Whether there is an image, and how many vertices are on the list, refused or not.
+#[derive(Clone, Copy)]
+pub struct Told {
+    pub answer: Result<(), Refusal>,
+    pub count: usize,
+}
+
 // The bits C and D of the codes, and nothing on the list.
 fn begin(codes: &[u8]) -> Tracked
     requires { (length codes.now ≤ 64) × ((q : ℕ) → get_or codes.now q 0 < 24) }
@@ -92,7 +99,7 @@ pub fn image_in(
     words: &mut [u64],
     bytes: &mut [u8],
     list: &mut [u8],
-) -> Result<usize, Refusal>
+) -> Told
     requires unrefused { Unrefused (record_in neighbours.now codes.now) }
     requires words_len { (length words.old ≡ length neighbours.now) × (length bytes.old ≡ length neighbours.now)
         × (length list.old ≡ 96) }
@@ -102,8 +109,10 @@ pub fn image_in(
     let end = rule_on(neighbours, codes, words, bytes, list);
     let left = action_of(bytes);
     sign_bytes(words, left.sx, left.sz, bytes);
-    image_refusal(end.c, left.b & left.d)?;
-    Ok(end.count)
+    Told {
+        answer: image_refusal(end.c, left.b & left.d),
+        count: end.count,
+    }
 }
 
 // The vertices that the image rule complements, at the start of the list, whether or not the image is refused. Returns

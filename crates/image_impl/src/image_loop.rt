@@ -1,7 +1,5 @@
 // The loop of the image rule.
-ghost use Rattle.std.specs.Prelude.{◌&&◌, IfNone, IfSome, not, ◌≡◌, ◌+◌, ◌<◌, ◌≤◌, eqb, length};
-ghost use Rattle.std.specs.Int.Bits.{bit_and};
-ghost use Rattle.words.specs.Bits.{bit};
+ghost use Rattle.std.specs.Prelude.{IfNone, IfSome, ◌≡◌, ◌+◌, ◌<◌, ◌≤◌, length};
 ghost use Rattle.words.specs.Search.{first};
 ghost use Rattle.image.specs.Rule.{image_list, moves, state_of};
 ghost use Rattle.image_impl.specs.internal.Working.{
@@ -15,15 +13,7 @@ ghost use Rattle.image_impl.specs.internal.Working.{
 use crate::complementing::{Tracked, complement_at, triple_at};
 use words::{has, smallest};
 
-// Whether vertex j is in the set c and has a neighbour there.
-fn joined(around: u64, c: u64, j: usize) -> bool
-    requires { j < 64 }
-    ensures { result ≡ (bit c j && not (eqb (bit_and around c) 0)) }
-{
-    has(c, j) & (around & c != 0)
-}
-
-// The smallest vertex of the set c that has a neighbour in c.
+// The smallest vertex of the set c that has a neighbour in c. A word is looked at only where its vertex is in c.
 fn first_joined(neighbours: &[u64], c: u64) -> Option<usize>
     requires { length neighbours.now ≤ 64 }
     ensures some { IfSome result (λ j. (j ≡ first (length neighbours.now) (joined_in neighbours.now c))
@@ -31,8 +21,8 @@ fn first_joined(neighbours: &[u64], c: u64) -> Option<usize>
     ensures none { IfNone result
         (length neighbours.now ≡ first (length neighbours.now) (joined_in neighbours.now c)) }
 {
-    for (j, &around) in neighbours.iter().enumerate() {
-        if joined(around, c, j) {
+    for j in 0..neighbours.len() {
+        if has(c, j) && neighbours[j] & c != 0 {
             return Some(j);
         }
     }

@@ -67,7 +67,7 @@ fn plot_answer(n: usize, signs: &[u8; 64], z: &[u64; 64], x: &[u64; 64], out: &m
 
 // Prints the answer to the text that was scanned, whatever text it was.
 pub fn plot_reply(
-    verdict: Option<usize>,
+    verdict: Result<usize, usize>,
     signs: &[u8; 64],
     z: &[u64; 64],
     x: &[u64; 64],
@@ -78,7 +78,7 @@ pub fn plot_reply(
         → ListResponse plot_answer t out.old out.new result }
 {
     match verdict {
-        Some(n) => plot_answer(n, signs, z, x, out),
-        None => print_refusal(Refusal::Form, out),
+        Ok(n) => plot_answer(n, signs, z, x, out),
+        Err(_) => print_refusal(Refusal::Form, out),
     }
 }

@@ -2,14 +2,14 @@
 use mathlib.Core.Bool.{◌&&◌, Bool, and-false, and-true, false, not, or-false, true, true≢false, ◌||◌}
 use mathlib.Core.List.{List}
 use mathlib.Core.Path.{ap, ap₂, refl, subst, sym, ◌∙◌, ◌≡◌}
-use Prim.Native.Nat.{◌+◌, ◌-◌, ◌<◌, ◌^◌, ℕ, ◌≤◌}
+use Prim.Native.Nat.{◌%◌, ◌*◌, ◌+◌, ◌-◌, ◌<◌, ◌^◌, ℕ, ◌≤◌}
 use native.Mathlib.Decide.{ℕ_discrete}
-use native.Mathlib.Nat.{add-suc, add-zero, not-suc-le-zero}
+use native.Mathlib.Nat.{add-suc, add-zero, mod-eq_of_lt, not-suc-le-zero}
 use native.Mathlib.Omega.{arith}
 use lib.Bits.{bit_and, bit_or, bit_xor}
 use lib.Dec.{eqb, ltb}
 use lib.ListN.{get_or, length, length-set, set}
-use lib.Pow.{ones_lt, pow_pos}
+use lib.Pow.{ones_lt, pow-add, pow-lt, pow_pos}
 use lib.Seq.{get_or-set_other, get_or-set_same}
 use borrow.Author.Tests.{eq-eqb, le-ltb, lt-ltb, ne_eqb}
 use Rattle.record.specs.Lent.{not_simple}
@@ -50,27 +50,36 @@ copied-one i n words rows small l C =
         ∙ ap (λ k. get_or words k 0) (sym e)
     at j h (no d) = get_or-set_other rows i j (get_or words i 0) 0 d ∙ C.copied.same j (omega (arith, d))
 
--- ---- the diagonal: the bits of the first i words at their own places
-pub record OwnTo (i n : ℕ) (words rows : List ℕ) (own : ℕ) : Type 0 where
+-- ---- the diagonal: the bits of the first i words at their own places, and the place of the next
+pub record OwnTo (i n : ℕ) (words rows : List ℕ) (own place : ℕ) : Type 0 where
   pub copied : CopiedTo i n words rows
+  pub next : i < 64 → place ≡ 2 ^ i
   pub held : (c : ℕ) → bit own c ≡ (ltb c i && bit (get_or words c 0) c)
 
-pub own-none : (n : ℕ) (words rows : List ℕ) → length rows ≡ 64 → OwnTo 0 n words rows 0
+pub own-none : (n : ℕ) (words rows : List ℕ) → length rows ≡ 64 → OwnTo 0 n words rows 0 1
 own-none n words rows e =
     record {
       copied = copied_none n words rows e;
+      next = λ l. refl;
       held = λ c. zero_bit c ∙ ap (λ b. b && bit (get_or words c 0) c) (sym (le-ltb c 0 (omega arith)));
     }
 
-pub own-one : (i n : ℕ) (words rows : List ℕ) (own place : ℕ) → n ≤ 64 → i < n → OwnTo i n words rows own
-    → place ≡ 2 ^ i
-    → OwnTo (i + 1) n words (set rows i (get_or words i 0)) (bit_or own (bit_and (get_or words i 0) place))
-own-one i n words rows own place small l S e =
+-- the place moves on by a shift, which loses nothing below the last
+pub next_place : (i place : ℕ) → i + 1 < 64 → place ≡ 2 ^ i → place * 2 % 18446744073709551616 ≡ 2 ^ (i + 1)
+next_place i place l e =
+    let doubled : place * 2 ≡ 2 ^ (i + 1) = ap (λ v. v * 2) e ∙ sym (pow-add 2 i 1) in
+    ap (λ v. v % 18446744073709551616) doubled ∙ mod-eq_of_lt (pow-lt l)
+
+pub own-one : (i n : ℕ) (words rows : List ℕ) (own place place' : ℕ) → n ≤ 64 → i < n → OwnTo i n words rows own place
+    → (i + 1 < 64 → place ≡ 2 ^ i → place' ≡ 2 ^ (i + 1))
+    → OwnTo (i + 1) n words (set rows i (get_or words i 0)) (bit_or own (bit_and (get_or words i 0) place)) place'
+own-one i n words rows own place place' small l S moved =
     record {
       copied = copied-one i n words rows small l S.copied;
+      next = λ h. moved h (S.next (omega arith));
       held = λ c. bit-or own (bit_and (get_or words i 0) place) c
           ∙ ap₂ ◌||◌ (S.held c) (bit-and (get_or words i 0) place c
-          ∙ ap (λ w. bit (get_or words i 0) c && bit w c) e
+          ∙ ap (λ w. bit (get_or words i 0) c && bit w c) (S.next (omega arith))
           ∙ ap (λ b. bit (get_or words i 0) c && b) (bit-single i c))
           ∙ at c (ℕ_discrete c i);
     }

@@ -10,8 +10,8 @@ ghost use Rattle.record_impl.specs.internal.Looks.{Looked};
 
 use buffers::refusals::Refusal;
 use buffers::{bad_count, reaches, strays};
+use words::mask;
 use words::transposition::transpose;
-use words::{mask, single};
 
 // Line 4: one of the two buffers does not have n places.
 fn record_lengths(n: usize, neighbours: &[u64], codes: &[u8]) -> bool
@@ -27,9 +27,12 @@ fn square_of(n: usize, words: &[u64], rows: &mut [u64; 64]) -> u64
     ensures by_index { (c : ℕ) → bit result c ≡ (ltb c n && bit (get_or words.now c 0) c) }
 {
     let mut own = 0;
+    let mut place = 1;
     for i in 0..n {
-        own |= words[i] & single(i);
-        rows[i] = words[i];
+        let word = words[i];
+        own |= word & place;
+        rows[i] = word;
+        place <<= 1;
     }
     own
 }

@@ -9,7 +9,7 @@ ghost use Rattle.store.specs.internal.StoreNumbers.{large_count, number_at};
 ghost use Rattle.operations.specs.Used.{used_lines, used_record};
 
 use crate::places::{find, word_at};
-use buffers::earliest::earlier;
+use buffers::earliest::earlier_refusal;
 use buffers::other_than;
 use buffers::refusals::Refusal;
 use operations_checks::used_refusal;
@@ -81,7 +81,7 @@ fn store_number(k: usize, heads: &[u64], neighbours: &[u64], codes: &[u8]) -> Re
         let at = 64 * i;
         let end = at + 64;
         let here = held_number(n, used, &neighbours[at..end], &codes[at..end]);
-        first = earlier(first, here);
+        first = earlier_refusal(first, here);
     }
     first
 }

@@ -21,7 +21,7 @@ use Rattle.text.specs.Text.{qubit_line, qubit_lines, record_text, refused_text}
 use Rattle.text.specs.internal.Feeding.{fed_bytes}
 use Rattle.text.specs.internal.Scan.{push, names_step, sign_step, z_step, x_step, one_more, scan_byte, begin}
 use Rattle.text.specs.internal.Scan.{Reading, as_reading, feed, fed, verdict}
-use Rattle.std.specs.Prelude.{Option, None, Some}
+use Rattle.std.specs.Prelude.{Result, Ok, Err}
 
 -- XX and ZZ
 bell : List ListLine
@@ -63,17 +63,17 @@ refusal-text = refl
 reading_of : List ℕ → Reading
 reading_of t = fed (as_reading begin (replicate 64 0) (replicate 64 0) (replicate 64 0)) t
 
-judgement : List ℕ → Option ℕ
+judgement : List ℕ → Result ℕ ℕ
 judgement t = verdict (reading_of t).scan
 
-input-read : judgement input ≡ Some 2
+input-read : judgement input ≡ Ok 2
 unfolding judgement reading_of verdict fed_bytes feed scan_byte names_step sign_step z_step x_step one_more hex_value push begin
 input-read = refl
 
-empty-read : judgement [] ≡ None
+empty-read : judgement [] ≡ Err 0
 unfolding judgement reading_of verdict fed_bytes begin
 empty-read = refl
 
-names-read : judgement list_names ≡ Some 0
+names-read : judgement list_names ≡ Ok 0
 unfolding judgement reading_of verdict fed_bytes feed scan_byte names_step begin
 names-read = refl

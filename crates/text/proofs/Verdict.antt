@@ -6,8 +6,8 @@ use mathlib.Core.List.{List, [], ◌∷◌, ◌++◌, flatten}
 use Prim.Native.Nat.{ℕ}
 use lib.Dec.{ltb, lit<}
 use lib.ListN.{length}
-use Rattle.std.specs.Prelude.{None, Some}
-use Rattle.std.specs.Option.{is_some}
+use Rattle.std.specs.Prelude.{Err, Ok}
+use Rattle.std.specs.Result.{is_ok}
 use Rattle.text.specs.Text.{HasForm}
 use Rattle.text.specs.internal.Feeding.{fed_blocks}
 use Rattle.text.specs.internal.Scan.{
@@ -56,9 +56,9 @@ ends-sound (Z k) s t sofar e = absurd (false≢true e)
 ends-sound (X k) s t sofar e = absurd (false≢true e)
 ends-sound Broken s t sofar e = absurd (false≢true e)
 
-some-where : (t : Bool) (n : ℕ) → is_some (cond t (Some n) None) ≡ t
-some-where true n = refl
-some-where false n = refl
+ok-where : (t : Bool) (n : ℕ) → is_ok (cond t (Ok n) (Err n)) ≡ t
+ok-where true n = refl
+ok-where false n = refl
 
 module _ (A B C : List ℕ) (a : length A ≡ 64) (b : length B ≡ 64) (c : length C ≡ 64) where
   pub text-judged : (t : List ℕ) → Judged t (fed (as_reading begin A B C) t)
@@ -67,9 +67,9 @@ module _ (A B C : List ℕ) (a : length A ≡ 64) (b : length B ≡ 64) (c : len
       let w = fed (as_reading begin A B C) t in
       record {
         form = (
-          λ some. ends-sound w.scan.place w.scan t (fed-sound t [] (as_reading begin A B C) (lit< tt, refl))
-              (sym (some-where (at_sign w.scan.place) w.scan.count) ∙ some),
-          λ has. some-where (at_sign w.scan.place) w.scan.count
+          λ ok. ends-sound w.scan.place w.scan t (fed-sound t [] (as_reading begin A B C) (lit< tt, refl))
+              (sym (ok-where (at_sign w.scan.place) w.scan.count) ∙ ok),
+          λ has. ok-where (at_sign w.scan.place) w.scan.count
               ∙ ap at_sign (text-read A B C a b c has.0 t has.1).place,
         );
         lines = λ ls text. (text-read A B C a b c ls t text).kept;

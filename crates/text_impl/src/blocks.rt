@@ -46,13 +46,13 @@ pub fn scan_block(
     s
 }
 
-// The text ends: how many lines are counted, where it has the form.
+// The text ends: how many lines are counted, `Ok` where it has the form and `Err` where it has not.
 #[tactic(auto, unfolding(text::specs::internal::Scan::verdict))]
-pub fn finish(s: Scan) -> Option<usize>
+pub fn finish(s: Scan) -> Result<usize, usize>
     ensures { result ≡ verdict s }
 {
     match s.place {
-        Place::Sign => Some(s.count),
-        _ => None,
+        Place::Sign => Ok(s.count),
+        _ => Err(s.count),
     }
 }

@@ -13,10 +13,8 @@ use Rattle.text.proofs.RecordLaws.{length-columns}
 use Rattle.text.specs.RecordTexts.{columns, line_at, line_of, numbered_line, numeral}
 use Rattle.text.specs.Text.{space}
 use Rattle.text.specs.declared.records.RecordLine.{RecordLine}
-use Rattle.text_records.specs.internal.Reads.{LineTold, print_at}
-use Rattle.std.specs.Prelude.{None, Some}
+use Rattle.text_records.specs.internal.Reads.{LineOther, LineThere, print_at}
 use Rattle.std.specs.Cmp.Lexicographic.{pointwise}
-use Rattle.std.proofs.lemmas.Option.{none-some}
 use Rattle.std.proofs.lemmas.Slice.Eq.{bytes_eq-Decides}
 use lib.Dec.{eqb}
 
@@ -48,25 +46,25 @@ module _ (q : ℕ) (t : List ℕ) {o₀ o₁ : List ℕ} {from : ℕ} (N : Print
     printed = head-printed whole ∙ print
 
     module _ {r : Bool} (told : r ≡ pointwise eqb (take size o₂) (take (length (take size o₂)) t)) where
-      pub line-there : r ≡ true → LineTold q t (Some (record { line = line; size = size }))
+      long : size ≡ length (print_at q t)
+      long = whole.end ∙ zero-add (length (numbered_line q line)) ∙ ap length print
+
+      pub line-there : r ≡ true → LineThere q t (record { line = line; size = size })
       line-there same =
-          let long = whole.end ∙ zero-add (length (numbered_line q line)) ∙ ap length print in
           record {
-            there = record {
-              line = own_line;
-              size = long;
-              there = ap (λ k. take k t) (long ∙ ap length (sym printed))
-                  ∙ sym ((bytes_eq-Decides (take size o₂) (take (length (take size o₂)) t)).0 (sym told ∙ same))
-                  ∙ printed;
-            };
-            other = λ none. absurd (none-some _ (sym none));
+            line = own_line;
+            size = long;
+            there = ap (λ k. take k t) (long ∙ ap length (sym printed))
+                ∙ sym ((bytes_eq-Decides (take size o₂) (take (length (take size o₂)) t)).0 (sym told ∙ same))
+                ∙ printed;
           }
 
-      pub line-other : r ≡ false → LineTold q t None
+      pub line-other : r ≡ false → LineOther q t (record { line = line; size = size })
       line-other differs =
           record {
-            there = tt;
-            other = λ _ h. false≢true (sym differs ∙ told
+            line = own_line;
+            size = long;
+            other = λ h. false≢true (sym differs ∙ told
                 ∙ (bytes_eq-Decides (take size o₂) (take (length (take size o₂)) t)).1
-                (printed ∙ sym h ∙ ap (λ k. take k t) (ap length (sym printed))));
+                (printed ∙ sym h ∙ ap (λ k. take k t) (long ∙ ap length (sym printed))));
           }

@@ -36,7 +36,7 @@ use Rattle.text.specs.RecordTexts.{
 }
 use Rattle.text.specs.Text.{record_names, space}
 use Rattle.text.specs.declared.records.RecordLine.{RecordLine}
-use Rattle.text_records.specs.internal.Reads.{LineTold, LineThere, TextTold}
+use Rattle.text_records.specs.internal.Reads.{LineOther, LineThere, TextTold}
 use Rattle.std.specs.Prelude.{None, Some}
 use Rattle.text_records.specs.declared.lines.ReadLine.{ReadLine}
 
@@ -133,8 +133,10 @@ module _ (t : List ℕ) where
     ]
 
     module _ (l : at < length t) where
-      pub line-missing : LineTold count (from_line t count) None → record_form t ≡ false
-      line-missing T = never_true (record_form t) (λ form. T.other refl (line-follows l form))
+      pub line-missing : (r : ReadLine) → LineOther count (from_line t count) r → record_form t ≡ false
+      line-missing r T =
+          never_true (record_form t) (λ form. T.other
+          (ap (λ k. take k (from_line t count)) T.size ∙ line-follows l form))
 
       module _ (r : ReadLine) (T : LineThere count (from_line t count) r) where
         size-inside : at + r.size ≤ length t

@@ -79,23 +79,25 @@ fn print_number(q: u64, out: &mut [u8]) -> usize
     put(b' ', behind, out)
 }
 
-// The line of qubit q at the start of a text, printed into a buffer; none where the text does not start with its print.
-fn read_printing(q: u64, text: &[u8], out: &mut [u8]) -> Option<ReadLine>
+// The line of qubit q at the start of a text, printed into a buffer and compared with the text.
+fn read_printing(q: u64, text: &[u8], out: &mut [u8]) -> Result<ReadLine, ReadLine>
     requires { 64 ≤ length out.old }
     ensures { LineTold q text.now result }
 {
     let from = print_number(q, out);
     let line = columns_at(text, from);
     let size = put_columns(line, from, out);
+    let read = ReadLine { line, size };
     if text.starts_with(&out[..size]) {
-        Some(ReadLine { line, size })
+        Ok(read)
     } else {
-        None
+        Err(read)
     }
 }
 
-// The line of qubit q at the start of a text, where it has the form.
-pub fn read_line(q: u64, text: &[u8]) -> Option<ReadLine>
+// The line of qubit q at the start of a text; `Err` of what its bytes say, where the text does not start with the print
+// of that.
+pub fn read_line(q: u64, text: &[u8]) -> Result<ReadLine, ReadLine>
     ensures { LineTold q text.now result }
 {
     let mut room = [0u8; 64];

@@ -31,7 +31,9 @@ pub fn read_text(text: &[u8]) -> Option<ReadRecord>
     let mut at = NAMES.len();
     // no iterator: each line that was read says where the next begins
     while at < text.len() {
-        let read = read_line(count as u64, &text[at..])?;
+        let Ok(read) = read_line(count as u64, &text[at..]) else {
+            return None;
+        };
         let line = read.line;
         let place = count % 64;
         neighbours[place] = line.word;

@@ -6,7 +6,7 @@ use Rattle.text.proofs.Feeding.{fed-append}
 use Rattle.text.specs.internal.Feeding.{fed_bytes}
 use Rattle.text.specs.internal.Scan.{begin, fed, feed, as_reading, verdict}
 use Rattle.text.specs.declared.scan.Scan.{Scan}
-use Rattle.std.specs.Prelude.{Option}
+use Rattle.std.specs.Prelude.{Result}
 use Rattle.text_replies.specs.internal.Scanned.{Scanned}
 
 -- the scan has been fed with some text
@@ -28,7 +28,7 @@ one_block signs₀ z₀ x₀ signs z x signs' z' x' scan scan' block F e = (
 )
 
 -- the text ends
-pub scanned : (signs₀ z₀ x₀ signs z x : List ℕ) (scan : Scan) (r : Option ℕ) →
+pub scanned : (signs₀ z₀ x₀ signs z x : List ℕ) (scan : Scan) (r : Result ℕ ℕ) →
     Fed signs₀ z₀ x₀ scan signs z x → r ≡ verdict scan → Scanned signs₀ z₀ x₀ signs z x r
 scanned signs₀ z₀ x₀ signs z x scan r F e =
     record { text = F.0; scan = scan; lines = F.1; judged = e }

@@ -12,8 +12,8 @@ use Rattle.stabilizer.specs.Lists.{GeneratorList}
 use Rattle.text.proofs.FormLaws.{list-unique}
 use Rattle.text.specs.internal.Scan.{Reading, begin, fed, as_reading, verdict}
 use Rattle.text.specs.Text.{HasForm, TextOf, lines_text, list_names, list_text, refused_text}
-use Rattle.std.specs.Prelude.{None, Option, Some}
-use Rattle.std.specs.Option.{is_some}
+use Rattle.std.specs.Prelude.{Err, Ok, Result}
+use Rattle.std.specs.Result.{is_ok}
 use Rattle.text_replies.proofs.ReadTexts.{formed-answers, malformed-answers, says-form}
 use Rattle.calls.specs.ListAnswers.{AnswersList, list_read, list_answer}
 use Rattle.text_replies.specs.internal.Places.{ScanOf}
@@ -23,7 +23,7 @@ module _ (t : List ℕ) where
   abbrev whole : Reading
   whole = fed (as_reading begin (replicate 64 0) (replicate 64 0) (replicate 64 0)) t
 
-  abbrev judgement : Option ℕ
+  abbrev judgement : Result ℕ ℕ
   judgement = verdict whole.scan
 
   scan-of : ScanOf t judgement whole.signs whole.zs whole.xs
@@ -34,18 +34,19 @@ module _ (t : List ℕ) where
         → (bytes : List ℕ) × AnswersList answer t bytes
     has-answer too_many = go judgement refl
       where
-        go : (v : Option ℕ) → judgement ≡ v → (bytes : List ℕ) × AnswersList answer t bytes
-        go (Some n) e =
+        go : (v : Result ℕ ℕ) → judgement ≡ v → (bytes : List ℕ) × AnswersList answer t bytes
+        go (Ok n) e =
             (_, formed-answers t judgement whole.signs whole.zs whole.xs scan-of answer too_many n e)
-        go None e = (_, malformed-answers t judgement whole.signs whole.zs whole.xs scan-of answer e)
+        go (Err n) e =
+            (_, malformed-answers t judgement whole.signs whole.zs whole.xs scan-of answer n e)
 
     pub one_answer : (a b : List ℕ) → AnswersList answer t a → AnswersList answer t b → a ≡ b
-    one_answer a b A B = go (is_some judgement) refl
+    one_answer a b A B = go (is_ok judgement) refl
       where
-        form-said : (is_some judgement ≡ true) ↔ HasForm t
+        form-said : (is_ok judgement ≡ true) ↔ HasForm t
         form-said = says-form t judgement whole.signs whole.zs whole.xs scan-of
 
-        go : (v : Bool) → is_some judgement ≡ v → a ≡ b
+        go : (v : Bool) → is_ok judgement ≡ v → a ≡ b
         go true e = let h = form-said.0 e in A.formed h.0 h.1 ∙ sym (B.formed h.0 h.1)
         go false e =
             let none : HasForm t → ⊥ = λ h. true≢false (sym (form-said.1 h) ∙ e) in

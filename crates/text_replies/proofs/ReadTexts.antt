@@ -1,5 +1,5 @@
 -- The answer to the text that was scanned: whatever the blocks in which it came, it is the definition's.
-use mathlib.Core.Bool.{true, true≢false}
+use mathlib.Core.Bool.{Bool, cond, false, true, true≢false}
 use mathlib.Core.List.{List}
 use mathlib.Core.Logic.{◌↔◌, ⊎_elim}
 use mathlib.Core.Path.{ap, refl, subst, sym, ◌∙◌, ◌≡◌}
@@ -13,29 +13,37 @@ use Rattle.text.proofs.Verdict.{text-judged}
 use Rattle.text.specs.internal.Scan.{Judged, LinesKept, Reading, as_reading, at_sign, verdict}
 use Rattle.text.specs.Text.{HasForm, ListLine, refused_text}
 use Rattle.buffers.specs.Writing.{Printed}
-use Rattle.std.specs.Prelude.{None, Option, Some}
-use Rattle.std.specs.Option.{is_some}
-use Rattle.std.proofs.lemmas.Option.{cond_some}
+use Rattle.std.specs.Prelude.{Err, Ok, Result}
+use Rattle.std.specs.Result.{is_ok}
 use Rattle.words.proofs.Sums.{lt-or-ge}
 use Rattle.calls.specs.ListAnswers.{AnswersList, ListResponse, list_read}
 use Rattle.text_replies.specs.internal.Places.{ScanOf, list_at}
 
-module _ (t : List ℕ) (v : Option ℕ) (signs z x : List ℕ) (S : ScanOf t v signs z x) where
+-- how many lines a verdict counts
+abbrev counted : Result ℕ ℕ → ℕ
+counted (Ok n) = n
+counted (Err n) = n
+
+counted-where : (b : Bool) (n : ℕ) → counted (cond b (Ok n) (Err n)) ≡ n
+counted-where true n = refl
+counted-where false n = refl
+
+module _ (t : List ℕ) (v : Result ℕ ℕ) (signs z x : List ℕ) (S : ScanOf t v signs z x) where
   -- the verdict and the list are those of the text
   read-judged : Judged t (as_reading S.scan signs z x)
   read-judged = subst (Judged t) (sym S.lines)
       (text-judged (replicate 64 0) (replicate 64 0) (replicate 64 0) refl refl refl t)
 
-  pub says-form : (is_some v ≡ true) ↔ HasForm t
-  says-form = subst (λ w. (is_some w ≡ true) ↔ HasForm t) (sym S.judged) read-judged.form
+  pub says-form : (is_ok v ≡ true) ↔ HasForm t
+  says-form = subst (λ w. (is_ok w ≡ true) ↔ HasForm t) (sym S.judged) read-judged.form
 
   -- a text without the form
-  pub malformed-answers : (answer : GeneratorList → List ℕ) → v ≡ None → AnswersList answer t
+  pub malformed-answers : (answer : GeneratorList → List ℕ) (n : ℕ) → v ≡ Err n → AnswersList answer t
       (refused_text 1)
-  malformed-answers answer e =
+  malformed-answers answer n e =
       record {
         malformed = λ h. refl;
-        formed = λ ls T. absurd (true≢false (sym (says-form.1 (ls, T)) ∙ ap is_some e));
+        formed = λ ls T. absurd (true≢false (sym (says-form.1 (ls, T)) ∙ ap is_ok e));
       }
 
   -- the list of a text with the form, where one of more than 64 is refused with 2
@@ -64,24 +72,24 @@ module _ (t : List ℕ) (v : Option ℕ) (signs z x : List ℕ) (S : ScanOf t v 
               x = (ap (λ k. take k x) m ∙ xs-few ls w K h) i;
             })
 
-    pub formed-answers : (n : ℕ) → v ≡ Some n → AnswersList answer t (answer (list_at n signs z x))
+    pub formed-answers : (n : ℕ) → v ≡ Ok n → AnswersList answer t (answer (list_at n signs z x))
     unfolding verdict
     formed-answers n e =
         record {
-          malformed = λ h. absurd (h (says-form.0 (ap is_some e)));
+          malformed = λ h. absurd (h (says-form.0 (ap is_ok e)));
           formed = λ ls T. ap (λ k. answer (list_at k signs z x))
-              (sym (cond_some (at_sign S.scan.place) S.scan.count n (sym S.judged ∙ e)).1)
+              (ap counted (sym e ∙ S.judged) ∙ counted-where (at_sign S.scan.place) S.scan.count)
               ∙ same_answer ls (read-judged.lines ls T);
         }
 
 -- the answer, printed
-module _ (answer : GeneratorList → List ℕ) (v : Option ℕ) (signs z x before after : List ℕ) (end : ℕ) where
-  pub malformed-responds : v ≡ None → Printed (refused_text 1) 0 before after end →
+module _ (answer : GeneratorList → List ℕ) (v : Result ℕ ℕ) (signs z x before after : List ℕ) (end : ℕ) where
+  pub malformed-responds : (n : ℕ) → v ≡ Err n → Printed (refused_text 1) 0 before after end →
       (t : List ℕ) → ScanOf t v signs z x → ListResponse answer t before after end
-  malformed-responds e P t S =
-      record { bytes = refused_text 1; answers = malformed-answers t v signs z x S answer e; out = P }
+  malformed-responds n e P t S =
+      record { bytes = refused_text 1; answers = malformed-answers t v signs z x S answer n e; out = P }
 
-  pub formed-responds : ((l : GeneratorList) → 64 < l.n → answer l ≡ refused_text 2) → (n : ℕ) → v ≡ Some n →
+  pub formed-responds : ((l : GeneratorList) → 64 < l.n → answer l ≡ refused_text 2) → (n : ℕ) → v ≡ Ok n →
       Printed (answer (list_at n signs z x)) 0 before after end →
       (t : List ℕ) → ScanOf t v signs z x → ListResponse answer t before after end
   formed-responds too_many n e P t S =

@@ -25,13 +25,14 @@ pub fn read_full<R: Read>(input: &mut R, block: &mut [u8]) -> io::Result<usize>
 }
 
 // Reads the input to its end, block after block; the first 64 lines of the list go to the buffers. The only error is that
-// of a read; of the blocks that were full before it, the lines are then in the buffers.
+// of a read; of the blocks that were full before it, the lines are then in the buffers. What it reads to the end gets the
+// verdict that `finish` gives, whatever text it is.
 pub fn read_list<R: Read>(
     input: &mut R,
     signs: &mut [u8; 64],
     z: &mut [u64; 64],
     x: &mut [u64; 64],
-) -> io::Result<Option<usize>>
+) -> io::Result<Result<usize, usize>>
     ensures ok { IfOk result (Scanned signs.old z.old x.old signs.new z.new x.new) }
     ensures err { OnErr result (ScannedSoFar signs.old z.old x.old signs.new z.new x.new) }
 {

@@ -55,7 +55,7 @@ fn list_answer(n: usize, signs: &[u8; 64], z: &[u64; 64], x: &[u64; 64], out: &m
 
 // Prints the answer to the text that was scanned, whatever text it was.
 pub fn list_reply(
-    verdict: Option<usize>,
+    verdict: Result<usize, usize>,
     signs: &[u8; 64],
     z: &[u64; 64],
     x: &[u64; 64],
@@ -66,7 +66,7 @@ pub fn list_reply(
         → ListResponse list_answer t out.old out.new result }
 {
     match verdict {
-        Some(n) => list_answer(n, signs, z, x, out),
-        None => print_refusal(Refusal::Form, out),
+        Ok(n) => list_answer(n, signs, z, x, out),
+        Err(_) => print_refusal(Refusal::Form, out),
     }
 }

@@ -1,10 +1,12 @@
 -- A round, pair of rows by pair of rows.
 use mathlib.Core.Bool.{Bool, cond, false, true, not}
 use mathlib.Core.List.{List}
+use mathlib.Core.Logic.{inl, inr, ◌⊎◌}
 use mathlib.Core.Path.{ap, ap₂, refl, subst, sym, ◌∙◌, ◌≡◌}
 use Prim.Native.Nat.{◌%◌, ◌*◌, ◌+◌, ◌-◌, ◌/◌, ◌<◌, ◌^◌, ℕ, ◌≤◌}
 use native.Mathlib.Decide.{ℕ_discrete}
-use native.Mathlib.Nat.{div-eq_of_lt, lt_of_lt_of_le}
+use native.Mathlib.Nat.{div-eq_of_lt, le-div_iff_mul-le, lt_of_lt_of_le, mul-mod_left, not-le_of_lt, suc-mul, zero-mul}
+use native.Mathlib.Numerals.{add-one}
 use native.Mathlib.Omega.{arith}
 use lib.Bits.{bit_and, bit_xor}
 use lib.Dec.{eqb}
@@ -13,6 +15,7 @@ use lib.Seq.{get_or-set_other, get_or-set_same}
 use borrow.Author.Tests.{not-true}
 use Rattle.words.specs.Bits.{bit}
 use Rattle.words.proofs.PairWords.{lower-bit, upper-bit}
+use Rattle.words.proofs.Sums.{lt-or-ge}
 use Rattle.words.specs.internal.Squares.{Exchanged, Fits, Round, crossed, lacks}
 
 -- the upper row of the pair that row r is in
@@ -85,6 +88,34 @@ module _ (m s low : ℕ) (small : m ≤ 64) (R : Round s low) (F : Fits m s) whe
         inside = inside;
         moved = λ r c hr hc. U.done r c hr hc (lt_of_lt_of_le (upper-below r hr) l);
       }
+
+  -- ---- the blocks by their numbers
+  pub block-begins : (i : ℕ) → i * (2 * s) % (2 * s) ≡ 0
+  block-begins i = mul-mod_left i (2 * s)
+
+  pub block-inside : (i : ℕ) → i < m / (2 * s) → i * (2 * s) < m
+  block-inside i l =
+      let next : i * (2 * s) + 2 * s ≤ m = subst (λ v. v ≤ m) (suc-mul i (2 * s))
+      ((le-div_iff_mul-le (omega (arith, R.positive))).0 l) in
+      omega (arith, next, R.positive)
+
+  pub blocks-end : (i : ℕ) → m / (2 * s) ≤ i → m ≤ i * (2 * s)
+  blocks-end i l = go (lt-or-ge (i * (2 * s)) m)
+    where
+      go : (i * (2 * s) < m) ⊎ (m ≤ i * (2 * s)) → m ≤ i * (2 * s)
+      go (inl h) =
+          let more : i < m / (2 * s) = (le-div_iff_mul-le (omega (arith, R.positive))).1
+          (subst (λ v. v ≤ m) (sym (suc-mul i (2 * s))) (F.whole (i * (2 * s)) h (block-begins i))) in
+          absurd (not-le_of_lt more l)
+      go (inr h) = h
+
+  pub no-block : (rows : List ℕ) → length rows ≡ 64 → Upto m s (0 * (2 * s)) rows rows
+  no-block rows long = subst (λ k. Upto m s k rows rows) (sym (zero-mul (2 * s))) (none_yet rows long)
+
+  pub one-block : (i : ℕ) (rows₀ rows : List ℕ) → Upto m s (i * (2 * s) + 2 * s) rows₀ rows
+      → Upto m s ((i + 1) * (2 * s)) rows₀ rows
+  one-block i rows₀ rows U =
+      subst (λ k. Upto m s k rows₀ rows) (sym (ap (λ v. v * (2 * s)) (add-one i) ∙ suc-mul i (2 * s))) U
 
   -- ---- a block is passed
   module _ (block : ℕ) (hb : block < m) (start : block % (2 * s) ≡ 0) where

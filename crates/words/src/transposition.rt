@@ -28,7 +28,8 @@ fn exchange(rows: &mut [u64; 64], m: usize, s: usize, low: u64)
     if m <= s {
         return;
     }
-    for block in (0..m).step_by(2 * s) {
+    for i in 0..m / (2 * s) {
+        let block = i * (2 * s);
         for k in block..block + s {
             let a = rows[k];
             let b = rows[k + s];

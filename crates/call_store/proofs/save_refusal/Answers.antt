@@ -9,4 +9,4 @@ returns c =
       heads = c.args.heads.now;
       neighbours = c.args.held_neighbours.now;
       codes = c.args.held_codes.now;
-    }) _ _ _ c.used_refusal-own.ensures c.store_refusal-others.ensures c.earlier.ensures
+    }) _ _ _ c.used_refusal-own.ensures c.store_refusal-others.ensures c.earlier_refusal.ensures

@@ -1,7 +1,7 @@
 -- What the scanner of a text does with each byte. Its scan says what the next byte must be and holds the line
 -- being read; a line that is read to its newline goes to three buffers of 64 places.
-use Rattle.std.specs.Prelude.{◌≡◌, ◌↔◌, Bool, true, false, ◌&&◌, cond, List, map, Option, None, Some, ℕ, ◌+◌, ◌-◌, ◌*◌, ◌%◌, ◌^◌, min, eqb, ltb, length, get_or, set, take}
-use Rattle.std.specs.Option.{is_some}
+use Rattle.std.specs.Prelude.{◌≡◌, ◌↔◌, Bool, true, false, ◌&&◌, cond, List, map, Result, Ok, Err, ℕ, ◌+◌, ◌-◌, ◌*◌, ◌%◌, ◌^◌, min, eqb, ltb, length, get_or, set, take}
+use Rattle.std.specs.Result.{is_ok}
 use Rattle.text.specs.Text.{hex_value, list_names, ListLine, TextOf, HasForm}
 use Rattle.text.specs.internal.Feeding.{fed_bytes}
 use Rattle.text.specs.declared.scan.Scan.{Scan}
@@ -112,10 +112,10 @@ at_sign (Z k) = false
 at_sign (X k) = false
 at_sign Broken = false
 
--- the text ends: it has the form where the next byte would start a line (refusal 1 is that it has not), and then this
--- many lines are counted
-unfoldable pub verdict : Scan → Option ℕ
-verdict s = cond (at_sign s.place) (Some s.count) None
+-- the text ends: it has the form where the next byte would start a line (refusal 1 is that it has not); this many lines
+-- are counted, `Ok` where it has the form and `Err` where it has not
+unfoldable pub verdict : Scan → Result ℕ ℕ
+verdict s = cond (at_sign s.place) (Ok s.count) (Err s.count)
 
 -- the lines of the list ls are counted, up to 65, and the first 64 of them stand at the start of the buffers
 pub record LinesKept (ls : List ListLine) (w : Reading) : Type 0 where
@@ -126,5 +126,5 @@ pub record LinesKept (ls : List ListLine) (w : Reading) : Type 0 where
 
 -- the verdict on the text t is right: it says whether t has the form, and then the lines of t are kept
 pub record Judged (t : List ℕ) (w : Reading) : Type 0 where
-  pub form : (is_some (verdict w.scan) ≡ true) ↔ HasForm t
+  pub form : (is_ok (verdict w.scan) ≡ true) ↔ HasForm t
   pub lines : (ls : List ListLine) → TextOf ls t → LinesKept ls w

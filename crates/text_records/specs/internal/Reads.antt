@@ -1,5 +1,5 @@
 -- What the functions that read a record's text tell: a line, and the whole text.
-use Rattle.std.specs.Prelude.{List, IfSome, None, Option, ◌≡◌, ℕ, ◌≤◌, length, take}
+use Rattle.std.specs.Prelude.{Err, List, IfSome, Ok, Option, Result, ◌≡◌, ℕ, ◌≤◌, length, take}
 use Rattle.std.specs.Option.{is_some}
 use Rattle.buffers.specs.Buffers.{tabulate}
 use Rattle.text.specs.RecordTexts.{line_at, line_read, numbered_line, qubit_count, record_form}
@@ -17,10 +17,16 @@ pub record LineThere (q : ℕ) (t : List ℕ) (r : ReadLine) : Type 0 where
   pub size : r.size ≡ length (print_at q t)
   pub there : take r.size t ≡ print_at q t
 
--- what the line of qubit q at the start of t says, where t starts with its print
-pub record LineTold (q : ℕ) (t : List ℕ) (r : Option ReadLine) : Type 0 where
-  pub there : IfSome r (LineThere q t)
-  pub other : r ≡ None → take (length (print_at q t)) t ≡ print_at q t → ⊥
+-- a line at whose print t does not start
+pub record LineOther (q : ℕ) (t : List ℕ) (r : ReadLine) : Type 0 where
+  pub line : r.line ≡ line_at q t
+  pub size : r.size ≡ length (print_at q t)
+  pub other : take r.size t ≡ print_at q t → ⊥
+
+-- what the line of qubit q at the start of t says, and whether t starts with its print
+abbrev pub LineTold : ℕ → List ℕ → Result ReadLine ReadLine → Type 0
+LineTold q t (Ok r) = LineThere q t r
+LineTold q t (Err r) = LineOther q t r
 
 -- the lines of t, of which the first 64 are kept
 pub record LinesTold (t : List ℕ) (r : ReadRecord) : Type 0 where

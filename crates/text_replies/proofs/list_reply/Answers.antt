@@ -4,12 +4,12 @@ use Rattle.text_replies.proofs.ReadTexts.{formed-responds, malformed-responds}
 use Rattle.calls.specs.ListAnswers.{list_answer}
 use Rattle.text_replies.proofs.list_reply.Goals as goal
 
-pub returns-in-Some : goal.returns-in-Some
-returns-in-Some c =
-    formed-responds list_answer _ _ _ _ _ _ _ too-many-printed c.in-Some.n c.in-Some.is
+pub returns-in-Ok : goal.returns-in-Ok
+returns-in-Ok c =
+    formed-responds list_answer _ _ _ _ _ _ _ too-many-printed c.in-Ok.n c.in-Ok.is
     c.list_answer.ensures
 
-pub returns-in-None : goal.returns-in-None
-returns-in-None c =
-    malformed-responds list_answer _ _ _ _ _ _ _ c.in-None.is
+pub returns-in-Err : goal.returns-in-Err
+returns-in-Err c =
+    malformed-responds list_answer _ _ _ _ _ _ _ _ c.in-Err.is
     c.print_refusal.ensures

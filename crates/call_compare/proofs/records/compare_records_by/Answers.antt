@@ -16,10 +16,10 @@ returns-then-pair_count c =
     refused-2 a.limited l m a.choice.now a.list.now a.count.now
     (sym c.pair_count.ensures ∙ c.if-pair_count.true)
 
-pub returns-in_err-earlier : goal.returns-in_err-earlier
-returns-in_err-earlier c =
+pub returns-in_err-earlier_refusal : goal.returns-in_err-earlier_refusal
+returns-in_err-earlier_refusal c =
     let a = c.args in
-    let R = passed_on _ _ c.from_residual.ensures.1 c.in_err-earlier.ensures in
+    let R = passed_on _ _ c.from_residual.ensures.1 c.in_err-earlier_refusal.ensures in
     let l : LentRecord = lent_record a.n1 a.neighbours1.now a.codes1.now in
     let m : LentRecord = lent_record a.n2 a.neighbours2.now a.codes2.now in
     compare-refused a.limited l m a.choice.now a.list.now (sym c.pair_count.ensures ∙ c.if-pair_count.false)
@@ -34,7 +34,7 @@ slice_bounds-words1-end c =
     let m : LentRecord = lent_record a.n2 a.neighbours2.now a.codes2.now in
     few a.limited l m a.choice.now a.list.now (sym c.pair_count.ensures ∙ c.if-pair_count.false)
     (ap₂ ◌||◌ c.other_than.ensures c.other_than-2.ensures) c.record_refusal-first.ensures
-    c.record_refusal-second.ensures c.in_ok-earlier.ensures refl
+    c.record_refusal-second.ensures c.in_ok-earlier_refusal.ensures refl
 
 pub compare_copies-requires : goal.compare_copies-requires
 compare_copies-requires c =
@@ -43,13 +43,13 @@ compare_copies-requires c =
     let m : LentRecord = lent_record a.n2 a.neighbours2.now a.codes2.now in
     let n-few = few a.limited l m a.choice.now a.list.now (sym c.pair_count.ensures ∙ c.if-pair_count.false)
     (ap₂ ◌||◌ c.other_than.ensures c.other_than-2.ensures) c.record_refusal-first.ensures
-    c.record_refusal-second.ensures c.in_ok-earlier.ensures refl in record {
+    c.record_refusal-second.ensures c.in_ok-earlier_refusal.ensures refl in record {
       unrefused = first-unrefused a.limited l m a.choice.now a.list.now (sym c.pair_count.ensures ∙ c.if-pair_count.false)
           (ap₂ ◌||◌ c.other_than.ensures c.other_than-2.ensures) c.record_refusal-first.ensures
-          c.record_refusal-second.ensures c.in_ok-earlier.ensures refl;
+          c.record_refusal-second.ensures c.in_ok-earlier_refusal.ensures refl;
       unrefused_2 = second-unrefused a.limited l m a.choice.now a.list.now (sym c.pair_count.ensures ∙ c.if-pair_count.false)
           (ap₂ ◌||◌ c.other_than.ensures c.other_than-2.ensures) c.record_refusal-first.ensures
-          c.record_refusal-second.ensures c.in_ok-earlier.ensures refl;
+          c.record_refusal-second.ensures c.in_ok-earlier_refusal.ensures refl;
       words1_len = (
         part-long _ _ n-few refl,
         part-long _ _ n-few refl,
@@ -57,10 +57,10 @@ compare_copies-requires c =
         part-long _ _ n-few refl,
         choice-fits a.limited l m a.choice.now a.list.now (sym c.pair_count.ensures ∙ c.if-pair_count.false)
             (ap₂ ◌||◌ c.other_than.ensures c.other_than-2.ensures) c.record_refusal-first.ensures
-            c.record_refusal-second.ensures c.in_ok-earlier.ensures refl,
+            c.record_refusal-second.ensures c.in_ok-earlier_refusal.ensures refl,
         list-fits a.limited l m a.choice.now a.list.now (sym c.pair_count.ensures ∙ c.if-pair_count.false)
             (ap₂ ◌||◌ c.other_than.ensures c.other_than-2.ensures) c.record_refusal-first.ensures
-            c.record_refusal-second.ensures c.in_ok-earlier.ensures refl,
+            c.record_refusal-second.ensures c.in_ok-earlier_refusal.ensures refl,
       );
     }
 
@@ -71,5 +71,5 @@ returns c =
     let m : LentRecord = lent_record a.n2 a.neighbours2.now a.codes2.now in
     compare-decided a.limited l m a.choice.now a.list.now (sym c.pair_count.ensures ∙ c.if-pair_count.false)
     (ap₂ ◌||◌ c.other_than.ensures c.other_than-2.ensures) c.record_refusal-first.ensures
-    c.record_refusal-second.ensures c.in_ok-earlier.ensures refl
+    c.record_refusal-second.ensures c.in_ok-earlier_refusal.ensures refl
     c.compare_copies.ensures

@@ -10,4 +10,4 @@ returns c =
       heads = c.args.heads.now;
       neighbours = c.args.held_neighbours.now;
       codes = c.args.held_codes.now;
-    }) _ _ _ c.used_refusal-own.ensures c.own_refusal-held.ensures c.earlier.ensures
+    }) _ _ _ c.used_refusal-own.ensures c.own_refusal-held.ensures c.earlier_refusal.ensures

@@ -2,8 +2,7 @@
 use mathlib.Core.Path.{refl}
 use Prim.Native.Nat.{◌<◌, ◌^◌}
 use native.Mathlib.Omega.{arith}
-use Rattle.image_impl.proofs.Answering.{answered, no-count}
-use Rattle.buffers.proofs.RefusalLaws.{passed_on}
+use Rattle.image_impl.proofs.Answering.{answered}
 use Rattle.operations.proofs.UnrefusedRecords.{unrefused-codes, unrefused-long, unrefused-short, unrefused-simple}
 use Rattle.image_impl.proofs.answer.image_in.Goals as goal
 
@@ -15,19 +14,10 @@ sign_bytes-requires c =
     let U = c.rule_on-end.ensures.tracking.unrefused in
     (unrefused-short _ _ U, unrefused-long _ _ U)
 
-pub returns-in_err-image_refusal : goal.returns-in_err-image_refusal
-returns-in_err-image_refusal c =
-    let left = c.action_of-left in
-    let b : left.result.b < 2 ^ 64 = omega arith in
-    let sz : left.result.sz < 2 ^ 64 = omega arith in
-    let R = passed_on _ _ c.from_residual.ensures.1 c.in_err-image_refusal.ensures in
-    answered _ _ (unrefused-simple _ _ c.requires.unrefused) _ c.rule_on-end.ensures left.result left.ensures b sz _ R.0
-    (no-count _ _ c.from_residual.ensures.1 _) _ c.sign_bytes.ensures
-
 pub returns : goal.returns
 returns c =
     let left = c.action_of-left in
     let b : left.result.b < 2 ^ 64 = omega arith in
     let sz : left.result.sz < 2 ^ 64 = omega arith in
     answered _ _ (unrefused-simple _ _ c.requires.unrefused) _ c.rule_on-end.ensures left.result left.ensures b sz _
-    c.in_ok-image_refusal.ensures refl _ c.sign_bytes.ensures
+    c.image_refusal.ensures refl _ c.sign_bytes.ensures

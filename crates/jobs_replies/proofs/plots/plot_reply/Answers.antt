@@ -4,12 +4,12 @@ use Rattle.jobs_replies.proofs.PlotAnswering.{too-many-refused}
 use Rattle.calls.specs.PlotAnswers.{plot_answer}
 use Rattle.jobs_replies.proofs.plots.plot_reply.Goals as goal
 
-pub returns-in-Some : goal.returns-in-Some
-returns-in-Some c =
-    formed-responds plot_answer _ _ _ _ _ _ _ too-many-refused c.in-Some.n c.in-Some.is
+pub returns-in-Ok : goal.returns-in-Ok
+returns-in-Ok c =
+    formed-responds plot_answer _ _ _ _ _ _ _ too-many-refused c.in-Ok.n c.in-Ok.is
     c.plot_answer.ensures
 
-pub returns-in-None : goal.returns-in-None
-returns-in-None c =
-    malformed-responds plot_answer _ _ _ _ _ _ _ c.in-None.is
+pub returns-in-Err : goal.returns-in-Err
+returns-in-Err c =
+    malformed-responds plot_answer _ _ _ _ _ _ _ _ c.in-Err.is
     c.print_refusal.ensures

@@ -3,4 +3,4 @@ use Rattle.record_impl.proofs.Squares.{OwnTo}
 use Rattle.record_impl.proofs.checks.square_of.Given as goal
 
 abbrev pub invariant-loop-i : goal.invariant-loop-i
-invariant-loop-i l = OwnTo l.i l.n l.words l.rows l.own
+invariant-loop-i l = OwnTo l.i l.n l.words l.rows l.own l.place

@@ -28,7 +28,7 @@ loop-i-preserved c =
     (place-small _ st c.requires.k_bound.1 _ _ l c.word_at-n.ensures)
     c.word_at-n.ensures c.word_at-used.ensures (place-part i st.neighbours)
     (place-part i st.codes) _ c.held_number-here.ensures _
-    c.earlier-first.ensures
+    c.earlier_refusal-first.ensures
 
 pub returns : goal.returns
 returns c = all-passed _ _ _ _ c.loop-i.invariant (omega arith)
