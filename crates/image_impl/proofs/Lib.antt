@@ -1,6 +1,7 @@
 pub mod ActionWords
 pub mod Answering
 pub mod CodeBits
+pub mod JoinedSearch
 pub mod NextMoves
 pub mod PivotSteps
 pub mod Rounds

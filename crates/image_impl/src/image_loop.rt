@@ -1,5 +1,5 @@
 // The loop of the image rule.
-ghost use Rattle.std.specs.Prelude.{IfNone, IfSome, ◌≡◌, ◌+◌, ◌<◌, ◌≤◌, length};
+ghost use Rattle.std.specs.Prelude.{IfNone, IfSome, ◌≡◌, ◌+◌, ◌<◌, ◌≤◌, ◌^◌, length};
 ghost use Rattle.words.specs.Search.{first};
 ghost use Rattle.image.specs.Rule.{image_list, moves, state_of};
 ghost use Rattle.image_impl.specs.internal.Working.{
@@ -11,20 +11,23 @@ ghost use Rattle.image_impl.specs.internal.Working.{
 };
 
 use crate::complementing::{Tracked, complement_at, triple_at};
-use words::{has, smallest};
+use words::{smallest, without_smallest};
 
-// The smallest vertex of the set c that has a neighbour in c. A word is looked at only where its vertex is in c.
+// The smallest vertex of the set c that has a neighbour in c.
 fn first_joined(neighbours: &[u64], c: u64) -> Option<usize>
-    requires { length neighbours.now ≤ 64 }
+    requires { (length neighbours.now ≤ 64) × (c < 2 ^ (length neighbours.now)) }
     ensures some { IfSome result (λ j. (j ≡ first (length neighbours.now) (joined_in neighbours.now c))
         × (j < length neighbours.now)) }
     ensures none { IfNone result
         (length neighbours.now ≡ first (length neighbours.now) (joined_in neighbours.now c)) }
 {
-    for j in 0..neighbours.len() {
-        if has(c, j) && neighbours[j] & c != 0 {
+    let mut rest = c;
+    while rest != 0 {
+        let j = smallest(rest);
+        if neighbours[j] & c != 0 {
             return Some(j);
         }
+        rest = without_smallest(rest);
     }
     None
 }

@@ -1,5 +1,6 @@
 -- `next_moves` meets its contract: the next complementations, if there are any.
 use native.Mathlib.Omega.{arith}
+use Rattle.words.proofs.BitLaws.{lt-of-bits}
 use Rattle.image_impl.proofs.NextMoves.{none_done, single-done, single-ready, triple-done, triple-ready, where-none}
 use Rattle.image_impl.proofs.TrackedRecords.{tracked-small}
 use mathlib.Core.Path.{refl}
@@ -19,7 +20,7 @@ returns-then-both-ne0-clause-some c = (
 )
 
 pub first_joined-requires : goal.first_joined-requires
-first_joined-requires c = tracked-small _ _ c.requires.0
+first_joined-requires c = (tracked-small _ _ c.requires.0, lt-of-bits _ _ c.requires.0.above)
 
 pub returns-in_err-j-clause-none : goal.returns-in_err-j-clause-none
 returns-in_err-j-clause-none c =
