@@ -66,7 +66,9 @@ class Repository:
 
     def sources(self, crate):
         names = sorted(os.listdir(os.path.join(self.folder(crate), "src")))
-        return [os.path.join("crates", crate, "src", name) for name in names if name.endswith(".rt")]
+        return [
+            os.path.join("crates", crate, "src", name) for name in names if name.endswith(".rt") and name != "tests.rt"
+        ]
 
     def functions(self, crate):
         """The functions' names, those of a file that is not the first with the file's before them."""

@@ -4,3 +4,5 @@
 pub mod answers;
 pub mod plots;
 mod tables;
+#[cfg(test)]
+mod tests;

@@ -1,5 +1,6 @@
 // Answers the text of a generator list that was scanned: prints the table of the list's amplitudes, or a refusal.
-ghost use Rattle.std.specs.Prelude.{List, ℕ, ◌≤◌, length};
+ghost use Rattle.std.specs.Prelude.{List, Result, ◌≡◌, ℕ, ◌≤◌, length};
+ghost use Rattle.std.specs.Result.{result_ok};
 ghost use Rattle.calls.specs.ListAnswers.{ListResponse};
 ghost use Rattle.text_replies.specs.internal.Places.{ScanOf, list_at};
 ghost use Rattle.buffers.specs.Writing.{Printed};
@@ -65,7 +66,7 @@ fn plot_answer(n: usize, signs: &[u8; 64], z: &[u64; 64], x: &[u64; 64], out: &m
     )
 }
 
-// Prints the answer to the text that was scanned, whatever text it was.
+// Prints the answer to the text that was scanned, whatever text it was. The count in an `Err` is not looked at.
 pub fn plot_reply(
     verdict: Result<usize, usize>,
     signs: &[u8; 64],
@@ -74,7 +75,7 @@ pub fn plot_reply(
     out: &mut [u8],
 ) -> usize
     requires { longest_table ≤ length out.old }
-    ensures { (t : List ℕ) → ScanOf t verdict signs.now z.now x.now
+    ensures { (t : List ℕ) (v : Result ℕ ℕ) → result_ok v ≡ result_ok verdict → ScanOf t v signs.now z.now x.now
         → ListResponse plot_answer t out.old out.new result }
 {
     match verdict {

@@ -13,8 +13,9 @@ use Rattle.text.proofs.Verdict.{text-judged}
 use Rattle.text.specs.internal.Scan.{Judged, LinesKept, Reading, as_reading, at_sign, verdict}
 use Rattle.text.specs.Text.{HasForm, ListLine, refused_text}
 use Rattle.buffers.specs.Writing.{Printed}
-use Rattle.std.specs.Prelude.{Err, Ok, Result}
-use Rattle.std.specs.Result.{is_ok}
+use Rattle.std.specs.Prelude.{Err, None, Ok, Result, Some}
+use Rattle.std.specs.Result.{is_ok, result_ok}
+use Rattle.std.proofs.lemmas.Option.{none-some, same_Some}
 use Rattle.words.proofs.Sums.{lt-or-ge}
 use Rattle.calls.specs.ListAnswers.{AnswersList, ListResponse, list_read}
 use Rattle.text_replies.specs.internal.Places.{ScanOf, list_at}
@@ -98,3 +99,25 @@ module _ (answer : GeneratorList → List ℕ) (v : Result ℕ ℕ) (signs z x b
         answers = formed-answers t v signs z x S answer too_many n e;
         out = P;
       }
+
+ok-where : (v : Result ℕ ℕ) (n : ℕ) → result_ok v ≡ Some n → v ≡ Ok n
+ok-where (Ok m) n e = ap Ok (same_Some m n e)
+ok-where (Err m) n e = absurd (none-some n e)
+
+err-where : (v : Result ℕ ℕ) → result_ok v ≡ None → v ≡ Err (counted v)
+err-where (Ok m) e = absurd (none-some m (sym e))
+err-where (Err m) e = refl
+
+-- the same where w is the verdict on the text, and v agrees with w but for the count of a text without the form
+module _ (answer : GeneratorList → List ℕ) (v w : Result ℕ ℕ) (agrees : result_ok w ≡ result_ok v)
+    (signs z x before after : List ℕ) (end : ℕ) where
+  pub malformed-replies : (n : ℕ) → v ≡ Err n → Printed (refused_text 1) 0 before after end →
+      (t : List ℕ) → ScanOf t w signs z x → ListResponse answer t before after end
+  malformed-replies n e =
+      malformed-responds answer w signs z x before after end (counted w) (err-where w (agrees ∙ ap result_ok e))
+
+  pub formed-replies : ((l : GeneratorList) → 64 < l.n → answer l ≡ refused_text 2) → (n : ℕ) → v ≡ Ok n →
+      Printed (answer (list_at n signs z x)) 0 before after end →
+      (t : List ℕ) → ScanOf t w signs z x → ListResponse answer t before after end
+  formed-replies too_many n e =
+      formed-responds answer w signs z x before after end too_many n (ok-where w n (agrees ∙ ap result_ok e))

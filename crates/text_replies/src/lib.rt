@@ -2,8 +2,11 @@
 #![tactic(auto)]
 
 pub mod input;
+#[cfg(test)]
+mod tests;
 
-ghost use Rattle.std.specs.Prelude.{List, ℕ, ◌≤◌, length};
+ghost use Rattle.std.specs.Prelude.{List, Result, ◌≡◌, ℕ, ◌≤◌, length};
+ghost use Rattle.std.specs.Result.{result_ok};
 ghost use Rattle.buffers.specs.Writing.{Printed};
 ghost use Rattle.calls.specs.ListAnswers.{ListResponse, list_answer};
 ghost use Rattle.text_replies.specs.internal.Places.{Lent, ScanOf, list_at};
@@ -53,7 +56,7 @@ fn list_answer(n: usize, signs: &[u8; 64], z: &[u64; 64], x: &[u64; 64], out: &m
     )
 }
 
-// Prints the answer to the text that was scanned, whatever text it was.
+// Prints the answer to the text that was scanned, whatever text it was. The count in an `Err` is not looked at.
 pub fn list_reply(
     verdict: Result<usize, usize>,
     signs: &[u8; 64],
@@ -62,7 +65,7 @@ pub fn list_reply(
     out: &mut [u8],
 ) -> usize
     requires { longest_record ≤ length out.old }
-    ensures { (t : List ℕ) → ScanOf t verdict signs.now z.now x.now
+    ensures { (t : List ℕ) (v : Result ℕ ℕ) → result_ok v ≡ result_ok verdict → ScanOf t v signs.now z.now x.now
         → ListResponse list_answer t out.old out.new result }
 {
     match verdict {

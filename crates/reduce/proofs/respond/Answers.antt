@@ -1,9 +1,11 @@
 -- `respond` meets its contract: prints the answer to the text of an input.
+use mathlib.Core.Path.{ap, refl}
+use Rattle.std.specs.Result.{result_ok}
 use Rattle.claims.proofs.ProgramDemandHolds.{list-texts-answered}
 use Rattle.reduce.proofs.respond.Goals as goal
 
 pub returns : goal.returns
 returns g c =
     let S = c.in_ok-verdict.ensures.ok in
-    let P = c.list_reply.ensures S.text (record { scan = S.scan; lines = S.lines; judged = S.judged }) in
+    let P = c.list_reply.ensures S.text _ (ap result_ok refl) (record { scan = S.scan; lines = S.lines; judged = S.judged }) in
     record { ok = record { text = S.text; response = P; answered = list-texts-answered _ _ _ _ P }; err = tt }
