@@ -444,7 +444,8 @@ static void killed(const char *path, uint64_t dies)
 int main(int argc, char **argv)
 {
     static const char *const kept[] = {"run", "run.lock", "whole", "whole.lock"};
-    char folder[] = "/tmp/durable.XXXXXX", path[64], other[64], text[RECORD + 1] = "";
+    const char *below = getenv("TMPDIR");
+    char folder[PATH], path[PATH + 16], other[PATH + 16], text[RECORD + 1] = "";
     struct session s, whole;
     uint64_t length;
     int file;
@@ -455,8 +456,11 @@ int main(int argc, char **argv)
         close_session(&s);
         return 0;
     }
-    if (!mkdtemp(folder))
+    snprintf(folder, sizeof folder, "%s/durable.XXXXXX", below && *below ? below : P_tmpdir);
+    if (!mkdtemp(folder)) {
+        perror(folder);
         return 1;
+    }
     sprintf(path, "%s/run", folder);
     sprintf(other, "%s/whole", folder);
     killed(path, 37);

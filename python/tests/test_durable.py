@@ -87,6 +87,19 @@ class Durable(unittest.TestCase):
         with Session(self.path, State.zeros(3)):
             self.assertEqual(self.run_program(self.path, 1), (1, f"{self.path}: the session is open elsewhere\n"))
 
+    def test_the_example_is_run_in_a_folder_below_tmpdir(self):
+        with tempfile.TemporaryDirectory() as folder:
+            missing = os.path.join(folder, "missing")
+            runs = [
+                subprocess.run([self.program], env={**os.environ, "TMPDIR": below}, capture_output=True, text=True, timeout=60)
+                for below in (folder, missing)
+            ]
+            self.assertEqual(os.listdir(folder), [])
+        due = (ROOT / "examples" / "c" / "durable.out").read_text()
+        self.assertEqual((runs[0].returncode, runs[0].stdout, runs[0].stderr), (0, due, ""))
+        self.assertEqual((runs[1].returncode, runs[1].stdout), (1, ""))
+        self.assertTrue(runs[1].stderr.startswith(os.path.join(missing, "durable.")), runs[1].stderr)
+
     def judged_alike(self, raw):
         """Both refuse these bytes and change nothing, or both keep the same part of them; which of these."""
         Path(self.path).write_bytes(raw)
