@@ -100,6 +100,7 @@ module _ (answer : GeneratorList → List ℕ) (v : Result ℕ ℕ) (signs z x b
         out = P;
       }
 
+-- what a verdict is, from what it says of a text with the form
 ok-where : (v : Result ℕ ℕ) (n : ℕ) → result_ok v ≡ Some n → v ≡ Ok n
 ok-where (Ok m) n e = ap Ok (same_Some m n e)
 ok-where (Err m) n e = absurd (none-some n e)
@@ -111,13 +112,13 @@ err-where (Err m) e = refl
 -- the same where w is the verdict on the text, and v agrees with w but for the count of a text without the form
 module _ (answer : GeneratorList → List ℕ) (v w : Result ℕ ℕ) (agrees : result_ok w ≡ result_ok v)
     (signs z x before after : List ℕ) (end : ℕ) where
-  pub malformed-replies : (n : ℕ) → v ≡ Err n → Printed (refused_text 1) 0 before after end →
+  pub malformed-agreeing : (n : ℕ) → v ≡ Err n → Printed (refused_text 1) 0 before after end →
       (t : List ℕ) → ScanOf t w signs z x → ListResponse answer t before after end
-  malformed-replies n e =
+  malformed-agreeing n e =
       malformed-responds answer w signs z x before after end (counted w) (err-where w (agrees ∙ ap result_ok e))
 
-  pub formed-replies : ((l : GeneratorList) → 64 < l.n → answer l ≡ refused_text 2) → (n : ℕ) → v ≡ Ok n →
+  pub formed-agreeing : ((l : GeneratorList) → 64 < l.n → answer l ≡ refused_text 2) → (n : ℕ) → v ≡ Ok n →
       Printed (answer (list_at n signs z x)) 0 before after end →
       (t : List ℕ) → ScanOf t w signs z x → ListResponse answer t before after end
-  formed-replies too_many n e =
+  formed-agreeing too_many n e =
       formed-responds answer w signs z x before after end too_many n (ok-where w n (agrees ∙ ap result_ok e))
